@@ -1,0 +1,3 @@
+pub mod CivilDays
+pub mod DayTexts
+pub mod ReadTexts

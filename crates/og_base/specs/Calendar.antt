@@ -30,15 +30,15 @@ IsRefDay n = IsBetween first_day last_day n
 abbrev pub IsExtDay : ℤ → Type 0
 IsExtDay n = IsBetween before_all after_all n
 
--- the text of a civil day, with the day number that jiff gives it
-abbrev pub IsCivilText : List ℕ → ℤ → Type 0
-IsCivilText text n = (d : Date) × (text ≡ date_text d) × (n ≡ epoch_day d)
+-- the day text of a reference day: what jiff prints for a civil day, with the number that jiff gives that day
+abbrev pub IsRefDayText : List ℕ → ℤ → Type 0
+IsRefDayText text n = (d : Date) × (text ≡ date_text d) × (n ≡ epoch_day d)
 
 -- a day text, and the number of its day
 abbrev pub IsDayText : List ℕ → ℤ → Type 0
 IsDayText text n =
     ((text ≡ codes "-infinity") × (n ≡ before_all))
-    ⊎ (((text ≡ codes "infinity") × (n ≡ after_all)) ⊎ IsCivilText text n)
+    ⊎ (((text ≡ codes "infinity") × (n ≡ after_all)) ⊎ IsRefDayText text n)
 
 -- a day of a month of a year
 pub record CivilDay : Type 0 where

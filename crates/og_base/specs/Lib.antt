@@ -1,3 +1,4 @@
+pub mod Bytes
 pub mod Calendar
 pub mod Set
 pub mod Told

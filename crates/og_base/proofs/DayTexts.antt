@@ -1,0 +1,92 @@
+-- Each day has one text.
+use Rattle.std.proofs.Common.{◌≡◌, ◌⊎◌, inl, inr, ◌<◌, ◌≤◌, ◌+◌, ℕ, ℤ, pos, negsuc, neg_ℤ, ◌≤ℤ◌, ◌+ℤ◌, ◌-ℤ◌, Bool, true, false, cond, refl, sym, ap, ◌∙◌, arith, unsigned_abs, List, codes, Result, Ok, Err, OnErr}
+use Rattle.std.specs.Str.{bytes_eq}
+use Rattle.std.proofs.lemmas.Slice.Eq.{bytes_eq-Decides}
+use Rattle.std.specs.Ordering.{int_eq}
+use Rattle.std.proofs.lemmas.Bool.Decides.{Decides-int_eq}
+use Rattle.jiff_core.specs.Calendar.{IsCivilDate}
+use Rattle.jiff_core.specs.Date.{epoch_day}
+use Rattle.jiff_core.specs.declared.civil.date.Date.{Date}
+use Rattle.jiff_core.proofs.SignedLemmas.{signed_arith}
+use Rattle.jiff_core.proofs.DateLemmas.{epoch_day_injective, epoch_day_range}
+use Rattle.jiff_fmt.specs.Text.{date_text}
+use Rattle.og_base.specs.Calendar.{IsDayText, IsRefDayText, IsRefDay, IsExtDay, CivilDay, civil_day, civil_text, day_text, first_day, before_all, after_all}
+use Rattle.og_base.proofs.CivilDays.{IsNth, civil_day_is}
+
+-- dates with one number have one text
+pub date_text-number : (d e : Date) → epoch_day d ≡ epoch_day e → date_text d ≡ date_text e
+date_text-number d e h = let p = epoch_day_injective d e h in rw (p.0, p.1, p.2)
+
+-- a civil text is of a reference day
+pub civil_in_range : (text : List ℕ) (n : ℤ) → IsRefDayText text n → IsRefDay n
+civil_in_range text n h = rw h.2 (epoch_day_range h.0)
+
+pub one_text : (s t : List ℕ) (n : ℤ) → IsDayText s n → IsDayText t n → s ≡ t
+one_text s t n (inl a) (inl b) = a.0 ∙ sym b.0
+one_text s t n (inl a) (inr (inl b)) = cc
+one_text s t n (inl a) (inr (inr b)) = let r = civil_in_range t n b in absurd (omega (arith, signed_arith, a.1))
+one_text s t n (inr (inl a)) (inl b) = cc
+one_text s t n (inr (inl a)) (inr (inl b)) = a.0 ∙ sym b.0
+one_text s t n (inr (inl a)) (inr (inr b)) = let r = civil_in_range t n b in absurd (omega (arith, signed_arith, a.1))
+one_text s t n (inr (inr a)) (inl b) = let r = civil_in_range s n a in absurd (omega (arith, signed_arith, b.1))
+one_text s t n (inr (inr a)) (inr (inl b)) = let r = civil_in_range s n a in absurd (omega (arith, signed_arith, b.1))
+one_text s t n (inr (inr a)) (inr (inr b)) = a.1 ∙ date_text-number a.0 b.0 (sym a.2 ∙ b.2) ∙ sym b.1
+
+-- the civil day of that place as a date
+date_of : (c : CivilDay) → IsCivilDate c.year c.month c.day → Date
+date_of c h = record { year = c.year; month = c.month; day = c.day; year_in = h.0; month_in = h.1; day_in = h.2 }
+
+not_negative : (z : ℤ) → pos 0 ≤ℤ z → pos (unsigned_abs z) ≡ z
+not_negative (pos n) h = refl
+not_negative (negsuc n) h = absurd (omega (arith, signed_arith, h))
+
+ref_day_text_is : (n : ℤ) → IsRefDay n → IsRefDayText (civil_text (civil_day (unsigned_abs (n -ℤ first_day)))) n
+unfolding date_of
+ref_day_text_is n h =
+    let place = not_negative (n -ℤ first_day) (omega (arith, signed_arith, h.0)) in
+    let nth = civil_day_is (unsigned_abs (n -ℤ first_day)) (omega (arith, signed_arith, place, h.1)) in
+    (date_of _ nth.civil, refl, omega (arith, signed_arith, nth.number, place))
+
+by_test : (n : ℤ) (first last : Bool) → int_eq n before_all ≡ first → int_eq n after_all ≡ last → IsExtDay n → IsDayText (cond first (codes "-infinity") (cond last (codes "infinity") (civil_text (civil_day (unsigned_abs (n -ℤ first_day)))))) n
+by_test n true last e f h = inl (refl, (Decides-int_eq n before_all).0 e)
+by_test n false true e f h = inr (inl (refl, (Decides-int_eq n after_all).0 f))
+by_test n false false e f h =
+    let low : n ≡ before_all → ⊥ = λ same. cc (sym ((Decides-int_eq n before_all).1 same) ∙ e) in
+    let high : n ≡ after_all → ⊥ = λ same. cc (sym ((Decides-int_eq n after_all).1 same) ∙ f) in
+    inr (inr (ref_day_text_is n (omega (arith, signed_arith, low, h.0), omega (arith, signed_arith, high, h.1))))
+
+pub day_text_is : (n : ℤ) → IsExtDay n → IsDayText (day_text n) n
+unfolding day_text
+day_text_is n h = by_test n (int_eq n before_all) (int_eq n after_all) refl refl h
+
+-- what is a text of a day is the text of that day
+pub text_is : (text : List ℕ) (n : ℤ) → IsExtDay n → IsDayText text n → text ≡ day_text n
+text_is text n h is = one_text text (day_text n) n is (day_text_is n h)
+
+-- the infinities
+pub day_text-first : (n : ℤ) → int_eq n before_all ≡ true → day_text n ≡ codes "-infinity"
+day_text-first n h = sym (text_is (codes "-infinity") n (at_first n h) (inl (refl, (Decides-int_eq n before_all).0 h)))
+  where
+    at_first : (n : ℤ) → int_eq n before_all ≡ true → IsExtDay n
+    at_first n h = let e = (Decides-int_eq n before_all).0 h in (omega (arith, signed_arith, e), omega (arith, signed_arith, e))
+
+pub day_text-last : (n : ℤ) → (n ≡ before_all) ⊎ (n ≡ after_all) → int_eq n before_all ≡ false → day_text n ≡ codes "infinity"
+day_text-last n (inl e) h = cc (sym ((Decides-int_eq n before_all).1 e) ∙ h)
+day_text-last n (inr e) h = sym (text_is (codes "infinity") n (omega (arith, signed_arith, e), omega (arith, signed_arith, e)) (inr (inl (refl, e))))
+
+-- the text that jiff prints for a date is the text of its day
+pub day_text-epoch_day : (d : Date) → day_text (epoch_day d) ≡ date_text d
+day_text-epoch_day d =
+    let r = epoch_day_range d in
+    sym (text_is (date_text d) (epoch_day d) (omega (arith, signed_arith, r.0), omega (arith, signed_arith, r.1)) (inr (inr (d, refl, refl))))
+
+-- bytes that a test told apart
+pub differ : (xs ys zs : List ℕ) (b : Bool) → b ≡ bytes_eq xs ys → ys ≡ zs → b ≡ false → xs ≡ zs → ⊥
+differ xs ys zs b test same h e = cc (sym ((bytes_eq-Decides xs ys).1 (e ∙ sym same)) ∙ sym test ∙ h)
+
+-- no text of a reference day and no infinity: no day text
+pub no_day_text : (text : List ℕ) → (text ≡ codes "-infinity" → ⊥) → (text ≡ codes "infinity" → ⊥) → ((n : ℤ) → IsRefDayText text n → ⊥)
+    → (n : ℤ) → IsDayText text n → ⊥
+no_day_text text a b h n (inl x) = a x.0
+no_day_text text a b h n (inr (inl x)) = b x.0
+no_day_text text a b h n (inr (inr x)) = h n x

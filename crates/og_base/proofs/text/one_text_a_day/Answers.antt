@@ -1,0 +1,9 @@
+use Rattle.og_base.proofs.CivilDays.{civil_day_is}
+use Rattle.og_base.proofs.DayTexts.{one_text, day_text_is}
+use Rattle.og_base.proofs.text.one_text_a_day.Goals as goal
+
+pub returns-clause-one_text : goal.returns-clause-one_text
+returns-clause-one_text c = one_text
+
+pub returns-clause-written : goal.returns-clause-written
+returns-clause-written c = day_text_is

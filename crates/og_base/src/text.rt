@@ -1,0 +1,97 @@
+//! The texts of days.
+ghost use Rattle.std.specs.Prelude.{◌≡◌, ◌++◌, ◌⊎◌, ℤ, List, ℕ, IfOk, OnOk, OnErr};
+ghost use Rattle.std.specs.Prelude.{Ok};
+ghost use Rattle.jiff_core.specs.Date.{epoch_day};
+ghost use Rattle.og_base.specs.Calendar.{IsDayText, IsRefDayText, IsExtDay, IsRefDay, day_text, before_all, after_all};
+
+use crate::day::{ExtDay, RefDay};
+use crate::memory::NoMemory;
+use jiff::fmt::temporal;
+use jiff::fmt::temporal::DateTimePrinter;
+use jiff_core::civil::Date;
+use thiserror::Error;
+
+/// The bytes are no day text.
+#[derive(Clone, Copy, Debug, PartialEq, Eq, Error)]
+#[error("no day text")]
+pub struct NotADay;
+
+/// Reads a day text: the ten bytes `2020-02-29` in a year from 0 to 9999, the thirteen bytes
+/// `-000044-03-15` in a year before 0, `-infinity` or `infinity`. Refused exactly where the bytes
+/// are none of these (docs/FORMATS.md, "Days").
+pub fn read_day(text: &[u8]) -> Result<ExtDay, NotADay>
+    ensures value { IfOk result (IsDayText text.now) }
+    ensures refused { OnErr result ((n : ℤ) → ¬ IsDayText text.now n) }
+{
+    if text == b"-infinity".as_slice() {
+        return Ok(ExtDay::NEG);
+    }
+    if text == b"infinity".as_slice() {
+        return Ok(ExtDay::POS);
+    }
+    let day = read_ref_day(text)?;
+    Ok(ExtDay::of(day))
+}
+
+/// Reads the day text of a reference day. Refused exactly where the bytes are no such text, the
+/// texts of the infinities among them.
+pub fn read_ref_day(text: &[u8]) -> Result<RefDay, NotADay>
+    ensures value { IfOk result (IsRefDayText text.now) }
+    ensures refused { OnErr result ((n : ℤ) → ¬ IsRefDayText text.now n) }
+{
+    let Ok(date) = temporal::parse_date(text) else {
+        return Err(NotADay);
+    };
+    // jiff reads more than these texts, so what it read is written again and compared.
+    let written = DateTimePrinter::new().date_text(date);
+    if written.as_str().as_bytes() != text {
+        return Err(NotADay);
+    }
+    day_of(date)
+}
+
+// The day of a date.
+fn day_of(date: Date) -> Result<RefDay, NotADay>
+    ensures { result ≡ Ok (epoch_day date) }
+{
+    RefDay::from_number(date.to_unix_epoch_day()).ok_or(NotADay)
+}
+
+/// Appends the one text of the day, or nothing where memory runs out.
+pub fn write_day(day: ExtDay, out: &mut Vec<u8>) -> Result<(), NoMemory>
+    ensures written { OnOk result (out.new.items ≡ out.old.items ++ day_text day) }
+    ensures refused { OnErr result (out.new.items ≡ out.old.items) }
+{
+    let Some(day) = day.as_ref_day() else {
+        return write_end(day, out);
+    };
+    let Ok(date) = Date::from_unix_epoch_day(i64::from(day.number())) else {
+        unreachable!()
+    };
+    let written = DateTimePrinter::new().date_text(date);
+    out.extend_from_slice(written.as_str().as_bytes())?;
+    Ok(())
+}
+
+// Appends the text of an infinity.
+fn write_end(end: ExtDay, out: &mut Vec<u8>) -> Result<(), NoMemory>
+    requires { (end ≡ before_all) ⊎ (end ≡ after_all) }
+    ensures written { OnOk result (out.new.items ≡ out.old.items ++ day_text end) }
+    ensures refused { OnErr result (out.new.items ≡ out.old.items) }
+{
+    if end == ExtDay::NEG {
+        out.extend_from_slice(b"-infinity")?;
+    } else {
+        out.extend_from_slice(b"infinity")?;
+    }
+    Ok(())
+}
+
+/// Reading and writing are one another's inverse: each day has one text, each text is of at most
+/// one day, and the text that is written for a day is its text.
+pub fn one_text_a_day()
+    ensures one_text { (s t : List ℕ) (n : ℤ) → IsDayText s n → IsDayText t n → s ≡ t }
+    ensures one_day { (s : List ℕ) (m n : ℤ) → IsDayText s m → IsDayText s n → m ≡ n }
+    ensures written { (n : ℤ) → IsExtDay n → IsDayText (day_text n) n }
+{
+}

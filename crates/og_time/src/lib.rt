@@ -1,0 +1,8 @@
+//! Ongoing points: days that are not fixed until a day is given.
+#![tactic(auto)]
+
+mod point;
+mod text;
+
+pub use point::OngoingPoint;
+pub use text::{NotAPoint, read_point};
