@@ -1,5 +1,8 @@
 -- Each day has one text.
-use Rattle.std.proofs.Common.{◌≡◌, ◌⊎◌, inl, inr, ◌<◌, ◌≤◌, ◌+◌, ℕ, ℤ, pos, negsuc, neg_ℤ, ◌≤ℤ◌, ◌+ℤ◌, ◌-ℤ◌, Bool, true, false, cond, refl, sym, ap, ◌∙◌, arith, unsigned_abs, List, codes, Result, Ok, Err, OnErr}
+use Rattle.std.proofs.Common.{◌≡◌, ◌⊎◌, inl, inr, ◌<◌, ◌≤◌, ◌+◌, ℕ, ℤ, pos, negsuc, neg_ℤ, ◌≤ℤ◌, ◌+ℤ◌, ◌-ℤ◌, ◌/◌, ◌%◌, ◌++◌, suc, [], ◌∷◌, nat_lt, ◌&&◌, Bool, true, false, cond, refl, sym, ap, ◌∙◌, arith, unsigned_abs, List, codes, Result, Ok, Err, OnErr}
+use Rattle.std.specs.List.{list_all}
+use Rattle.std.proofs.lemmas.Bool.{and_parts}
+use Rattle.std.proofs.lemmas.Bool.Decides.{nat_tests}
 use Rattle.std.specs.Str.{bytes_eq}
 use Rattle.std.proofs.lemmas.Slice.Eq.{bytes_eq-Decides}
 use Rattle.std.specs.Ordering.{int_eq}
@@ -9,7 +12,9 @@ use Rattle.jiff_core.specs.Date.{epoch_day}
 use Rattle.jiff_core.specs.declared.civil.date.Date.{Date}
 use Rattle.jiff_core.proofs.SignedLemmas.{signed_arith}
 use Rattle.jiff_core.proofs.DateLemmas.{epoch_day_injective, epoch_day_range}
-use Rattle.jiff_fmt.specs.Text.{date_text}
+use Rattle.jiff_fmt.specs.Text.{date_text, year_text, pad2, pad4}
+use Rattle.og_base.specs.Bytes.{Lacks}
+use Rattle.og_base.proofs.ByteLemmas.{Lacks-append, Lacks-above}
 use Rattle.og_base.specs.Calendar.{IsDayText, IsRefDayText, IsRefDay, IsExtDay, CivilDay, civil_day, civil_text, day_text, first_day, before_all, after_all}
 use Rattle.og_base.proofs.CivilDays.{IsNth, civil_day_is}
 
@@ -90,3 +95,42 @@ pub no_day_text : (text : List ℕ) → (text ≡ codes "-infinity" → ⊥) →
 no_day_text text a b h n (inl x) = a x.0
 no_day_text text a b h n (inr (inl x)) = b x.0
 no_day_text text a b h n (inr (inr x)) = h n x
+
+-- bytes that are all from the dash on lack each byte below it
+Lacks-high : (b : ℕ) (xs : List ℕ) → b < 45 → list_all (λ x. nat_lt 44 x) xs ≡ true → Lacks b xs
+Lacks-high b [] h all = tt
+Lacks-high b (x ∷ xs) h all =
+    let p = and_parts (nat_lt 44 x) (list_all (λ x. nat_lt 44 x) xs) all in
+    let high : 44 < x = grind (arith, nat_tests, p.0) in
+    Lacks-above b x xs (omega arith) (Lacks-high b xs h p.1)
+
+Lacks-pad2 : (b n : ℕ) → b < 45 → Lacks b (pad2 n)
+Lacks-pad2 b n h = (λ e. omega (arith, e), (λ e. omega (arith, e), tt))
+
+Lacks-pad4 : (b n : ℕ) → b < 45 → Lacks b (pad4 n)
+Lacks-pad4 b n h = Lacks-append b (pad2 (n / 100)) (pad2 (n % 100)) (Lacks-pad2 b (n / 100) h) (Lacks-pad2 b (n % 100) h)
+
+Lacks-year_text : (b : ℕ) (y : ℤ) → b < 45 → Lacks b (year_text y)
+Lacks-year_text b (pos n) h = Lacks-pad4 b n h
+Lacks-year_text b (negsuc n) h =
+    (λ e. omega (arith, e), (λ e. omega (arith, e), (λ e. omega (arith, e), Lacks-pad4 b (suc n) h)))
+
+Lacks-date_text : (b : ℕ) (d : Date) → b < 45 → Lacks b (date_text d)
+Lacks-date_text b d h =
+    let dash : Lacks b (45 ∷ []) = (λ e. omega (arith, e), tt) in
+    let year = Lacks-append b (year_text d.year) (45 ∷ []) (Lacks-year_text b d.year h) dash in
+    let month = Lacks-append b (year_text d.year ++ 45 ∷ []) (pad2 d.month) year (Lacks-pad2 b d.month h) in
+    let middle = Lacks-append b (year_text d.year ++ 45 ∷ [] ++ pad2 d.month) (45 ∷ []) month dash in
+    Lacks-append b (year_text d.year ++ 45 ∷ [] ++ pad2 d.month ++ 45 ∷ []) (pad2 d.day) middle (Lacks-pad2 b d.day h)
+
+Lacks-infinity : (b : ℕ) → b < 45 → Lacks b (codes "infinity")
+Lacks-infinity b h = Lacks-high b (codes "infinity") h refl
+
+-- no byte of a day text is below the dash
+pub Lacks-ref_day_text : (b : ℕ) (text : List ℕ) (n : ℤ) → b < 45 → IsRefDayText text n → Lacks b text
+Lacks-ref_day_text b text n h is = rw is.1 (Lacks-date_text b is.0 h)
+
+pub Lacks-day_text : (b : ℕ) (text : List ℕ) (n : ℤ) → b < 45 → IsDayText text n → Lacks b text
+Lacks-day_text b text n h (inl is) = rw is.0 (λ e. omega (arith, e), Lacks-infinity b h)
+Lacks-day_text b text n h (inr (inl is)) = rw is.0 (Lacks-infinity b h)
+Lacks-day_text b text n h (inr (inr is)) = Lacks-ref_day_text b text n h is

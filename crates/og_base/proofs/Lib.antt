@@ -1,3 +1,5 @@
+pub mod ByteLemmas
 pub mod CivilDays
 pub mod DayTexts
 pub mod ReadTexts
+pub mod SetLemmas

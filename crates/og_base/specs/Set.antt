@@ -1,5 +1,5 @@
 -- Set: the rising list of the members of a list, each once.
-use Rattle.std.specs.Prelude.{◌≡◌, List, [], ◌∷◌}
+use Rattle.std.specs.Prelude.{◌≡◌, List, [], ◌∷◌, Contains}
 use Rattle.std.specs.Cmp.{IsTotalOrder}
 use Rattle.std.specs.declared.cmp.Ordering.{Ordering}
 use Rattle.std.specs.declared.cmp.Ordering.TheVariants.{Less, Equal, Greater}
@@ -27,3 +27,7 @@ with_member cmp x (y ∷ ys) = by_order (cmp x y) (x ∷ y ∷ ys) (y ∷ ys) (y
 abbrev pub set_of : {F : Type 0} → (F → F → Ordering) → List F → List F
 set_of cmp [] = []
 set_of cmp (x ∷ xs) = with_member cmp x (set_of cmp xs)
+
+-- each member of the one list is a member of the other
+abbrev pub IsWithin : {F : Type 0} → List F → List F → Type 0
+IsWithin {F} xs ys = (z : F) → Contains xs z → Contains ys z

@@ -9,7 +9,9 @@ pub fn cut_at(text: &[u8], byte: u8) -> Option<(&[u8], &[u8])>
     ensures lacking { IfNone result (Lacks byte text.now) }
 {
     let place = place_of(text, byte)?;
-    Some((&text[..place], &text[place + 1..]))
+    let (before, rest) = text.split_at(place);
+    let (_, after) = rest.split_at(1);
+    Some((before, after))
 }
 
 // The place of the first such byte.

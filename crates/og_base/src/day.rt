@@ -5,6 +5,7 @@ ghost use Rattle.og_base.specs.Calendar.{IsRefDay, IsExtDay, first_day, last_day
 use std::marker::Model;
 
 const FIRST: i32 = -4_371_587;
+
 const LAST: i32 = 2_932_896;
 
 /// A reference day: a civil day of the proleptic Gregorian calendar, from -9999-01-01 to 9999-12-31.

@@ -1,7 +1,8 @@
 //! The texts of days.
-ghost use Rattle.std.specs.Prelude.{◌≡◌, ◌++◌, ◌⊎◌, ℤ, List, ℕ, IfOk, OnOk, OnErr};
+ghost use Rattle.std.specs.Prelude.{◌≡◌, ◌++◌, ◌⊎◌, ◌<◌, ℤ, List, ℕ, IfOk, OnOk, OnErr};
 ghost use Rattle.std.specs.Prelude.{Ok};
 ghost use Rattle.jiff_core.specs.Date.{epoch_day};
+ghost use Rattle.og_base.specs.Bytes.{Lacks};
 ghost use Rattle.og_base.specs.Calendar.{IsDayText, IsRefDayText, IsExtDay, IsRefDay, day_text, before_all, after_all};
 
 use crate::day::{ExtDay, RefDay};
@@ -93,5 +94,7 @@ pub fn one_text_a_day()
     ensures one_text { (s t : List ℕ) (n : ℤ) → IsDayText s n → IsDayText t n → s ≡ t }
     ensures one_day { (s : List ℕ) (m n : ℤ) → IsDayText s m → IsDayText s n → m ≡ n }
     ensures written { (n : ℤ) → IsExtDay n → IsDayText (day_text n) n }
+    // No byte is below the dash, so a comma or a plus sign parts day texts.
+    ensures bytes { (s : List ℕ) (n : ℤ) (b : ℕ) → b < 45 → IsDayText s n → Lacks b s }
 {
 }
