@@ -1,5 +1,5 @@
 -- Each day has one text.
-use Rattle.std.proofs.Common.{◌≡◌, ◌⊎◌, inl, inr, ◌<◌, ◌≤◌, ◌+◌, ℕ, ℤ, pos, negsuc, neg_ℤ, ◌≤ℤ◌, ◌+ℤ◌, ◌-ℤ◌, ◌/◌, ◌%◌, ◌++◌, suc, [], ◌∷◌, nat_lt, ◌&&◌, Bool, true, false, cond, refl, sym, ap, ◌∙◌, arith, unsigned_abs, List, codes, Result, Ok, Err, OnErr}
+use Rattle.std.proofs.Common.{◌≡◌, ◌⊎◌, inl, inr, ◌<◌, ◌≤◌, ◌+◌, ℕ, ℤ, pos, negsuc, neg_ℤ, ◌≤ℤ◌, ◌+ℤ◌, ◌-ℤ◌, ◌/◌, ◌%◌, ◌++◌, length, length-append, suc, [], ◌∷◌, nat_lt, ◌&&◌, Bool, true, false, cond, refl, sym, ap, ◌∙◌, arith, unsigned_abs, List, codes, Result, Ok, Err, OnErr}
 use Rattle.std.specs.List.{list_all}
 use Rattle.std.proofs.lemmas.Bool.{and_parts}
 use Rattle.std.proofs.lemmas.Bool.Decides.{nat_tests}
@@ -134,3 +134,8 @@ pub Lacks-day_text : (b : ℕ) (text : List ℕ) (n : ℤ) → b < 45 → IsDayT
 Lacks-day_text b text n h (inl is) = rw is.0 (λ e. omega (arith, e), Lacks-infinity b h)
 Lacks-day_text b text n h (inr (inl is)) = rw is.0 (Lacks-infinity b h)
 Lacks-day_text b text n h (inr (inr is)) = Lacks-ref_day_text b text n h is
+
+-- a day text of a reference day has bytes
+pub some_bytes : (text : List ℕ) (n : ℤ) → IsRefDayText text n → 0 < length text
+some_bytes text n h =
+    rw h.1 (omega (arith, length-append (year_text h.0.year ++ 45 ∷ [] ++ pad2 h.0.month ++ 45 ∷ []) (pad2 h.0.day)))

@@ -1,6 +1,9 @@
 -- What jiff reads of a text that it prints.
-use Rattle.std.proofs.Common.{◌≡◌, ℕ, List, Result, Ok, Err, ap, ◌∙◌, sym, refl, Bool, true, false, not}
+use Rattle.std.proofs.Common.{◌≡◌, ℕ, List, Result, Ok, Err, ap, ◌∙◌, sym, refl, Bool, true, false, not, ℤ}
+use Rattle.jiff_core.specs.Date.{epoch_day}
 use Rattle.jiff_core.specs.declared.civil.date.Date.{Date}
+use Rattle.jiff_core.proofs.DateLemmas.{epoch_day_same}
+use Rattle.og_base.specs.Calendar.{IsRefDayText}
 use Rattle.jiff_core.specs.declared.error.Error.{Error}
 use Rattle.jiff_fmt.specs.Text.{date_text}
 use Rattle.jiff_fmt.specs.Temporal.{DateParts, date_parts, date_view, parse_date}
@@ -38,3 +41,14 @@ not_false false h = cc
 pub not_true : (b : Bool) → not b ≡ true → b ≡ true → ⊥
 not_true true h k = cc
 not_true false h k = cc
+
+-- dates with one text have one number
+number-date_text : (d e : Date) → date_text d ≡ date_text e → epoch_day d ≡ epoch_day e
+unfolding the_ok
+number-date_text d e h =
+    let p = same_parts d e (sym (parse_date-date_text d) ∙ ap parse_date h ∙ parse_date-date_text e) in
+    epoch_day_same d e (ap (λ (q : DateParts). q.year) p) (ap (λ (q : DateParts). q.month) p) (ap (λ (q : DateParts). q.day) p)
+
+-- a text is of one reference day at most
+pub one_ref_day : (text : List ℕ) (m n : ℤ) → IsRefDayText text m → IsRefDayText text n → m ≡ n
+one_ref_day text m n h k = h.2 ∙ number-date_text h.0 k.0 (sym h.1 ∙ k.1) ∙ sym k.2

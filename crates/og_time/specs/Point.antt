@@ -1,5 +1,5 @@
 -- Ongoing points: their values on a day, and their texts.
-use Rattle.std.specs.Prelude.{◌≡◌, ◌⊎◌, ◌++◌, ◌≤ℤ◌, ◌<ℤ◌, ℤ, List, ℕ, codes, int_lt, if◌then◌else◌}
+use Rattle.std.specs.Prelude.{◌≡◌, ◌+◌, ◌<◌, length, [], ◌⊎◌, ◌++◌, ◌≤ℤ◌, ◌<ℤ◌, ℤ, List, ℕ, codes, int_lt, if◌then◌else◌}
 use Rattle.og_base.specs.Calendar.{IsExtDay, IsDayText, IsRefDayText, before_all, after_all}
 
 -- the point low+high
@@ -48,3 +48,18 @@ abbrev pub IsPointText : List ℕ → Point → Type 0
 IsPointText text p =
     IsFixedText text p
     ⊎ (IsNowText text p ⊎ (IsGrowingText text p ⊎ (IsLimitedText text p ⊎ IsBetweenText text p)))
+
+-- what stands on one side of the plus sign: nothing for an open end, or the text of a reference day
+abbrev pub IsEndText : List ℕ → ℤ → ℤ → Type 0
+IsEndText text open_end n = ((text ≡ []) × (n ≡ open_end)) ⊎ IsRefDayText text n
+
+-- the two sides of the plus sign
+pub record AreEndTexts (low high : List ℕ) (p : Point) : Type 0 where
+  pub low_end : IsEndText low before_all p.low
+  pub high_end : IsEndText high after_all p.high
+  pub rising : p.low <ℤ p.high
+  pub some : 0 < length low + length high
+
+-- a point text without a plus sign
+abbrev pub IsWholeText : List ℕ → Point → Type 0
+IsWholeText text p = IsFixedText text p ⊎ IsNowText text p

@@ -1,9 +1,9 @@
 //! The texts of ongoing points.
-ghost use Rattle.std.specs.Prelude.{◌≡◌, IfOk, OnErr};
-ghost use Rattle.og_time.specs.Point.{Point, IsPointText};
+ghost use Rattle.std.specs.Prelude.{◌≡◌, ◌↔◌, ◌+◌, length, IsTrue, IfOk, OnErr, ℤ};
+ghost use Rattle.og_time.specs.Point.{Point, IsPointText, IsNowText, IsWholeText, AreEndTexts, IsEndText};
 
 use crate::point::OngoingPoint;
-use og_base::{ExtDay, read_day, read_ref_day};
+use og_base::{ExtDay, cut_at, read_day, read_ref_day};
 use thiserror::Error;
 
 /// The bytes are no point text.
@@ -18,14 +18,67 @@ pub fn read_point(text: &[u8]) -> Result<OngoingPoint, NotAPoint>
     ensures value { IfOk result (IsPointText text.now) }
     ensures refused { OnErr result ((p : Point) → ¬ IsPointText text.now p) }
 {
-    if text == b"now".as_slice() {
-        return point(ExtDay::NEG, ExtDay::POS);
+    match cut_at(text, b'+') {
+        Some((low, high)) => read_ends(low, high),
+        None => read_whole(text),
     }
-    let Some(plus) = text.iter().position(|byte| *byte == b'+') else {
-        let Ok(day) = read_day(text) else {
-            return Err(NotAPoint);
-        };
-        return point(day, day);
+}
+
+// Reads the two sides of the plus sign.
+fn read_ends(low: &[u8], high: &[u8]) -> Result<OngoingPoint, NotAPoint>
+    ensures value { IfOk result (AreEndTexts low.now high.now) }
+    ensures refused { OnErr result ((p : Point) → ¬ AreEndTexts low.now high.now p) }
+{
+    if are_empty(low, high) {
+        return Err(NotAPoint);
+    }
+    let low = read_end(low, ExtDay::NEG)?;
+    let high = read_end(high, ExtDay::POS)?;
+    if low == high {
+        return Err(NotAPoint);
+    }
+    OngoingPoint::new(low, high).ok_or(NotAPoint)
+}
+
+// Whether there is nothing on either side.
+fn are_empty(low: &[u8], high: &[u8]) -> bool
+    ensures { IsTrue result ↔ (length low.now + length high.now ≡ 0) }
+{
+    low.is_empty() && high.is_empty()
+}
+
+// Reads one side of the plus sign. An empty one stands for the open end.
+fn read_end(text: &[u8], open_end: ExtDay) -> Result<ExtDay, NotAPoint>
+    ensures value { IfOk result (IsEndText text.now open_end) }
+    ensures refused { OnErr result ((n : ℤ) → ¬ IsEndText text.now open_end n) }
+{
+    if text.is_empty() {
+        return Ok(open_end);
+    }
+    match read_ref_day(text) {
+        Ok(day) => Ok(ExtDay::of(day)),
+        Err(_) => Err(NotAPoint),
+    }
+}
+
+// Reads a point text that has no plus sign.
+fn read_whole(text: &[u8]) -> Result<OngoingPoint, NotAPoint>
+    ensures value { IfOk result (IsWholeText text.now) }
+    ensures refused { OnErr result ((p : Point) → ¬ IsWholeText text.now p) }
+{
+    let Ok(day) = read_day(text) else {
+        return read_now(text);
     };
-    Err(NotAPoint)
+    OngoingPoint::new(day, day).ok_or(NotAPoint)
+}
+
+// Reads the text of the point now.
+fn read_now(text: &[u8]) -> Result<OngoingPoint, NotAPoint>
+    ensures value { IfOk result (IsNowText text.now) }
+    ensures refused { OnErr result ((p : Point) → ¬ IsNowText text.now p) }
+{
+    if text != b"now".as_slice() {
+        return Err(NotAPoint);
+    }
+    OngoingPoint::new(ExtDay::NEG, ExtDay::POS).ok_or(NotAPoint)
 }
