@@ -1,0 +1,28 @@
+-- What the devices are seen as.
+use Rattle.std.specs.Prelude.{ℕ, List, Option, refl}
+use Rattle.std.specs.Coded.{Coded, code_by, coded×, coded_ℕ}
+
+-- bytes in memory, given at most `step` a call; the call with the number `fail_at`, counted from 1, fails
+pub record MemorySource : Type 0 where
+  pub left : List ℕ
+  pub step : ℕ
+  pub fail_at : Option ℕ
+  pub calls : ℕ
+  pub faults : ℕ
+
+-- bytes that were put in memory; the call with the number `fail_at`, counted from 1, fails
+pub record MemorySink : Type 0 where
+  pub written : List ℕ
+  pub fail_at : Option ℕ
+  pub calls : ℕ
+  pub faults : ℕ
+
+-- a reader or a writer, and how often it failed
+pub record Counted (D : Type 0) : Type 0 where
+  pub device : D
+  pub faults : ℕ
+
+-- it is stored as the pair of its fields
+abbrev pub counted_code : {D : Type 0} → Coded D → Coded (Counted D)
+counted_code {D} code =
+    code_by (D × ℕ) (coded× code coded_ℕ) (λ c. (c.device, c.faults)) (λ p. record { device = p.0; faults = p.1 }) (λ _. refl)
