@@ -1,5 +1,5 @@
 -- The civil days one after the other, and their numbers.
-use Rattle.std.proofs.Common.{◌≡◌, ◌<◌, ◌≤◌, ◌+◌, ◌⊎◌, inl, inr, ℕ, zero, suc, ℤ, pos, neg_ℤ, ◌+ℤ◌, ◌-ℤ◌, Bool, true, false, nat_lt, refl, sym, ap, ◌∙◌, arith, rules}
+use Rattle.std.proofs.Common.{◌≡◌, ◌<◌, ◌≤◌, ◌+◌, inl, inr, ℕ, zero, suc, ℤ, pos, ◌+ℤ◌, nat_lt, refl, ap, ◌∙◌, arith, rules}
 use Rattle.std.proofs.lemmas.Bool.{cases_lt, cond-true, cond-false}
 use Rattle.std.proofs.lemmas.Bool.Decides.{nat_tests}
 use Rattle.jiff_core.specs.Calendar.{IsCivilDate, days_from_civil, days_in_month}
@@ -23,9 +23,9 @@ next_month : (n : ℕ) (c : CivilDay) → IsNth n c → c.day ≡ days_in_month 
 next_month n c h last less =
     let long = days_in_month_bounds c.year (c.month + 1) in
     record {
-  civil = (h.civil.0, (omega arith, omega arith), (omega arith, omega (arith, long.1)));
-  number = omega (arith, signed_arith, days_from_civil-next_month c.year c.month c.day h.civil.1.0 last, h.number);
-}
+      civil = (h.civil.0, (omega arith, omega arith), (omega arith, omega (arith, long.1)));
+      number = omega (arith, signed_arith, days_from_civil-next_month c.year c.month c.day h.civil.1.0 last, h.number);
+    }
 
 last_of_year : (n : ℕ) (c : CivilDay) → IsNth n c → c.day ≡ days_in_month c.year c.month → c.month ≡ 12 → days_from_civil c.year 12 31 ≡ first_day +ℤ pos n
 last_of_year n c h last december =
@@ -40,9 +40,9 @@ next_year : (n : ℕ) (c : CivilDay) → IsNth n c → days_from_civil c.year 12
 next_year n c h last before =
     let left = year_left n c.year last before in
     record {
-  civil = ((omega (arith, signed_arith, h.civil.0.0), omega (arith, signed_arith, h.civil.0.1, left)), (omega arith, omega arith), (omega arith, omega arith));
-  number = omega (arith, signed_arith, days_from_civil-next_year c.year (c.year +ℤ pos 1) (omega (arith, signed_arith, h.civil.0.0)) refl, last);
-}
+      civil = ((omega (arith, signed_arith, h.civil.0.0), omega (arith, signed_arith, h.civil.0.1, left)), (omega arith, omega arith), (omega arith, omega arith));
+      number = omega (arith, signed_arith, days_from_civil-next_year c.year (c.year +ℤ pos 1) (omega (arith, signed_arith, h.civil.0.0)) refl, last);
+    }
 
 -- the day after the nth is the next
 next_is : (n : ℕ) (c : CivilDay) → IsNth n c → suc n ≤ 7_304_483 → IsNth (suc n) (day_after c)
@@ -50,11 +50,11 @@ next_is n c h before =
     elim (cases_lt c.day (days_in_month c.year c.month)) [
       | inl less ↦ rw (cond-true (nat_lt c.day (days_in_month c.year c.month)) _ _ (grind (arith, nat_tests))) (next_day n c h less)
       | inr full ↦
-        let last : c.day ≡ days_in_month c.year c.month = omega (arith, h.civil.2.1) in
-        rw (cond-false (nat_lt c.day (days_in_month c.year c.month)) _ _ (grind (arith, nat_tests))) (elim (cases_lt c.month 12) [
-        | inl less ↦ rw (cond-true (nat_lt c.month 12) _ _ (grind (arith, nat_tests))) (next_month n c h last less)
-        | inr late ↦ rw (cond-false (nat_lt c.month 12) _ _ (grind (arith, nat_tests))) (next_year n c h (last_of_year n c h last (omega (arith, h.civil.1.1))) before)
-      ])
+          let last : c.day ≡ days_in_month c.year c.month = omega (arith, h.civil.2.1) in
+          rw (cond-false (nat_lt c.day (days_in_month c.year c.month)) _ _ (grind (arith, nat_tests))) (elim (cases_lt c.month 12) [
+            | inl less ↦ rw (cond-true (nat_lt c.month 12) _ _ (grind (arith, nat_tests))) (next_month n c h last less)
+            | inr late ↦ rw (cond-false (nat_lt c.month 12) _ _ (grind (arith, nat_tests))) (next_year n c h (last_of_year n c h last (omega (arith, h.civil.1.1))) before)
+          ])
     ]
 
 -- each of the 7,304,484 days

@@ -1,5 +1,5 @@
 -- Each day has one text.
-use Rattle.std.proofs.Common.{◌≡◌, ◌⊎◌, inl, inr, ◌<◌, ◌≤◌, ◌+◌, ℕ, ℤ, pos, negsuc, neg_ℤ, ◌≤ℤ◌, ◌+ℤ◌, ◌-ℤ◌, ◌/◌, ◌%◌, ◌++◌, length, length-append, suc, [], ◌∷◌, nat_lt, ◌&&◌, Bool, true, false, cond, refl, sym, ap, ◌∙◌, arith, unsigned_abs, List, codes, Result, Ok, Err, OnErr}
+use Rattle.std.proofs.Common.{◌≡◌, ◌⊎◌, inl, inr, ◌<◌, ℕ, ℤ, pos, negsuc, ◌≤ℤ◌, ◌-ℤ◌, ◌/◌, ◌%◌, ◌++◌, length, length-append, suc, [], ◌∷◌, nat_lt, Bool, true, false, cond, refl, sym, ◌∙◌, arith, unsigned_abs, List, codes}
 use Rattle.std.specs.List.{list_all}
 use Rattle.std.proofs.lemmas.Bool.{and_parts}
 use Rattle.std.proofs.lemmas.Bool.Decides.{nat_tests}
@@ -16,7 +16,7 @@ use Rattle.jiff_fmt.specs.Text.{date_text, year_text, pad2, pad4}
 use Rattle.og_base.specs.Bytes.{Lacks}
 use Rattle.og_base.proofs.ByteLemmas.{Lacks-append, Lacks-above}
 use Rattle.og_base.specs.Calendar.{IsDayText, IsRefDayText, IsRefDay, IsExtDay, CivilDay, civil_day, civil_text, day_text, first_day, before_all, after_all}
-use Rattle.og_base.proofs.CivilDays.{IsNth, civil_day_is}
+use Rattle.og_base.proofs.CivilDays.{civil_day_is}
 
 -- dates with one number have one text
 pub date_text-number : (d e : Date) → epoch_day d ≡ epoch_day e → date_text d ≡ date_text e

@@ -105,3 +105,40 @@ impl ExtDay {
         RefDay::from_number(self.number)
     }
 }
+
+#[cfg(test)]
+mod tests {
+    use super::*;
+
+    #[test]
+    fn the_calendar_has_its_days_and_an_infinity_at_each_end(rt: HostRuntime) {
+        for (number, is_reference, is_extended) in [
+            (-4_371_589, false, false),
+            (-4_371_588, false, true),
+            (-4_371_587, true, true),
+            (2_932_896, true, true),
+            (2_932_897, false, true),
+            (2_932_898, false, false),
+        ] {
+            assert_eq!(rt;
+                RefDay::from_number(number).is_some(),
+                is_reference,
+                "{number}"
+            );
+            let day = ExtDay::from_number(number);
+            assert_eq!(rt; day.is_some(), is_extended, "{number}");
+            if let Some(day) = day {
+                assert_eq!(rt; day.as_ref_day().is_some(), is_reference, "{number}");
+            }
+        }
+    }
+
+    #[test]
+    fn the_named_days_are_the_ends(rt: HostRuntime) {
+        assert_eq!(rt; RefDay::FIRST.number(), -4_371_587);
+        assert_eq!(rt; RefDay::LAST.number(), 2_932_896);
+        assert_eq!(rt; ExtDay::NEG.number(), -4_371_588);
+        assert_eq!(rt; ExtDay::POS.number(), 2_932_897);
+        assert_eq!(rt; ExtDay::of(RefDay::LAST).number(), 2_932_896);
+    }
+}

@@ -96,5 +96,66 @@ pub fn one_text_a_day()
     ensures written { (n : ℤ) → IsExtDay n → IsDayText (day_text n) n }
     // No byte is below the dash, so a comma or a plus sign parts day texts.
     ensures bytes { (s : List ℕ) (n : ℤ) (b : ℕ) → b < 45 → IsDayText s n → Lacks b s }
-{
+{}
+
+#[cfg(test)]
+mod tests {
+    use super::*;
+    use std::test::Fail;
+
+    #[test]
+    fn each_day_text_is_read_and_written(rt: HostRuntime) -> Result<(), Fail> {
+        for (text, number) in [
+            ("2020-02-29", 18_321),
+            ("1970-01-01", 0),
+            ("0001-01-01", -719_162),
+            ("0000-02-29", -719_469),
+            ("-009999-01-01", -4_371_587),
+            ("9999-12-31", 2_932_896),
+            ("-infinity", -4_371_588),
+            ("infinity", 2_932_897),
+        ] {
+            let day = read_day(text.as_bytes())?;
+            assert_eq!(rt; day.number(), number, "{text}");
+            let mut out = Vec::new(rt.alloc());
+            write_day(day, &mut out)?;
+            assert_eq!(rt; out.as_slice(), text.as_bytes(), "{text}");
+        }
+        Ok(())
+    }
+
+    #[test]
+    fn no_other_text_is_a_day(rt: HostRuntime) {
+        for text in [
+            "2019-02-29",
+            "-000000-01-01",
+            "-000001-02-29",
+            "20200816",
+            "+002020-08-16",
+            "2020-08-16T00:00",
+            "0001-1-01",
+            "",
+        ] {
+            assert!(rt; read_day(text.as_bytes()).is_err(), "{text}");
+        }
+    }
+
+    #[test]
+    fn no_infinity_is_read_as_a_reference_day(rt: HostRuntime) -> Result<(), Fail> {
+        assert!(rt; read_ref_day(b"-infinity").is_err());
+        assert!(rt; read_ref_day(b"infinity").is_err());
+        assert_eq!(rt; read_ref_day(b"2020-02-29")?.number(), 18_321);
+        Ok(())
+    }
+
+    #[test]
+    fn a_day_is_written_behind_what_stands(rt: HostRuntime) -> Result<(), Fail> {
+        let mut out = Vec::new(rt.alloc());
+        out.extend_from_slice(b"[")?;
+        write_day(ExtDay::NEG, &mut out)?;
+        out.extend_from_slice(b",")?;
+        write_day(ExtDay::of(RefDay::LAST), &mut out)?;
+        assert_eq!(rt; out.as_slice(), b"[-infinity,9999-12-31".as_slice());
+        Ok(())
+    }
 }

@@ -1,14 +1,14 @@
 -- The texts of points, cut at their plus sign.
-use Rattle.std.proofs.Common.{◌≡◌, ◌⊎◌, inl, inr, ◌++◌, ◌∷◌, [], ◌<◌, ◌≤◌, ◌+◌, ◌≤ℤ◌, ◌<ℤ◌, ℕ, zero, suc, ◌↔◌, Bool, true, false, IsTrue, ℤ, List, Option, Some, None, Result, SomeIff, IfOk, OnErr, length, length-append, codes, refl, sym, ap, ◌∙◌, subst, arith}
+use Rattle.std.proofs.Common.{◌≡◌, inl, inr, ◌++◌, ◌∷◌, [], ◌<◌, ◌<ℤ◌, ℕ, zero, suc, ◌↔◌, Bool, false, IsTrue, ℤ, List, Option, Some, None, Result, SomeIff, IfOk, OnErr, length, codes, refl, sym, ap, ◌∙◌, subst, arith}
 use Rattle.std.proofs.lemmas.Int.{ints}
 use Rattle.std.proofs.lemmas.List.{append_assoc}
 use Rattle.std.specs.Option.{ok_or}
 use Rattle.og_base.specs.Bytes.{Lacks, IsCutAt}
-use Rattle.og_base.specs.Calendar.{IsDayText, IsRefDayText, IsRefDay, before_all, after_all}
+use Rattle.og_base.specs.Calendar.{IsRefDayText, before_all, after_all}
 use Rattle.og_base.proofs.ByteLemmas.{cut_once, not_cut}
 use Rattle.og_base.proofs.DayTexts.{Lacks-day_text, Lacks-ref_day_text, civil_in_range, some_bytes}
 use Rattle.og_base.proofs.ReadTexts.{one_ref_day}
-use Rattle.og_time.specs.Point.{Point, IsPointText, IsFixedText, IsNowText, IsGrowingText, IsLimitedText, IsBetweenText, IsEndText, AreEndTexts, IsWholeText}
+use Rattle.og_time.specs.Point.{Point, IsPointText, IsEndText, AreEndTexts, IsWholeText}
 
 -- what comes of a point that is made where its ends are in order
 pub made : {E : Type 0} (o : Option Point) (P : Type 0) (v : Point) (e : E) (r : Result Point E) → SomeIff o P v → r ≡ ok_or o e → IfOk r (λ p. P × (p ≡ v)) × OnErr r (¬ P)
@@ -50,28 +50,28 @@ texts_are_ends text low high p cut (inr (inr (inl (day, is, first, last)))) =
     let same = cut_once 43 low day high [] cut.first (Lacks-ref_day_text 43 day p.low (omega arith) first) (sym cut.joined ∙ is) in
     let r = civil_in_range day p.low first in
     record {
-  low_end = inr (subst (λ l. IsRefDayText l p.low) (sym same.0) first);
-  high_end = inl (same.1, last);
-  rising = rw last (omega (arith, ints, r.1));
-  some = omega (arith, some_bytes day p.low first, ap length same.0);
-}
+      low_end = inr (subst (λ l. IsRefDayText l p.low) (sym same.0) first);
+      high_end = inl (same.1, last);
+      rising = rw last (omega (arith, ints, r.1));
+      some = omega (arith, some_bytes day p.low first, ap length same.0);
+    }
 texts_are_ends text low high p cut (inr (inr (inr (inl (day, is, first, last))))) =
     let same = cut_once 43 low [] high day cut.first tt (sym cut.joined ∙ is) in
     let r = civil_in_range day p.high last in
     record {
-  low_end = inl (same.0, first);
-  high_end = inr (subst (λ l. IsRefDayText l p.high) (sym same.1) last);
-  rising = rw first (omega (arith, ints, r.0));
-  some = omega (arith, some_bytes day p.high last, ap length same.1);
-}
+      low_end = inl (same.0, first);
+      high_end = inr (subst (λ l. IsRefDayText l p.high) (sym same.1) last);
+      rising = rw first (omega (arith, ints, r.0));
+      some = omega (arith, some_bytes day p.high last, ap length same.1);
+    }
 texts_are_ends text low high p cut (inr (inr (inr (inr (day, end, is, first, last, rising))))) =
     let same = cut_once 43 low day high end cut.first (Lacks-ref_day_text 43 day p.low (omega arith) first) (sym cut.joined ∙ is ∙ plus_between day end) in
     record {
-  low_end = inr (subst (λ l. IsRefDayText l p.low) (sym same.0) first);
-  high_end = inr (subst (λ l. IsRefDayText l p.high) (sym same.1) last);
-  rising = rising;
-  some = omega (arith, some_bytes day p.low first, ap length same.0);
-}
+      low_end = inr (subst (λ l. IsRefDayText l p.low) (sym same.0) first);
+      high_end = inr (subst (λ l. IsRefDayText l p.high) (sym same.1) last);
+      rising = rising;
+      some = omega (arith, some_bytes day p.low first, ap length same.0);
+    }
 
 -- a text without a plus sign is whole
 pub texts_are_whole : (text : List ℕ) (p : Point) → Lacks 43 text → IsPointText text p → IsWholeText text p

@@ -66,3 +66,39 @@ impl OngoingPoint {
         }
     }
 }
+
+#[cfg(test)]
+mod tests {
+    use super::*;
+    use og_base::{read_day, read_ref_day};
+    use std::test::Fail;
+
+    #[test]
+    fn a_point_is_the_day_between_its_ends(rt: HostRuntime) -> Result<(), Fail> {
+        for (low, high, day, value) in [
+            ("-infinity", "2020-06-30", "2020-05-01", "2020-05-01"),
+            ("-infinity", "2020-06-30", "2020-06-30", "2020-06-30"),
+            ("-infinity", "2020-06-30", "2020-07-01", "2020-06-30"),
+            ("-infinity", "infinity", "-009999-01-01", "-009999-01-01"),
+            ("-infinity", "infinity", "0001-01-01", "0001-01-01"),
+            ("-infinity", "infinity", "9999-12-31", "9999-12-31"),
+            ("2020-05-01", "infinity", "2020-04-30", "2020-05-01"),
+            ("2020-05-01", "2020-05-01", "2020-05-02", "2020-05-01"),
+        ] {
+            let low = read_day(low.as_bytes())?;
+            let high = read_day(high.as_bytes())?;
+            let point = OngoingPoint::new(low, high);
+            assert!(rt; point.is_some(), "{day}");
+            if let Some(point) = point {
+                let day = read_ref_day(day.as_bytes())?;
+                assert_eq!(rt; point.at(day), read_day(value.as_bytes())?, "{value}");
+            }
+        }
+        Ok(())
+    }
+
+    #[test]
+    fn no_point_ends_before_it_begins(rt: HostRuntime) {
+        assert!(rt; OngoingPoint::new(ExtDay::POS, ExtDay::NEG).is_none());
+    }
+}

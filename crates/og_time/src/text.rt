@@ -82,3 +82,43 @@ fn read_now(text: &[u8]) -> Result<OngoingPoint, NotAPoint>
     }
     OngoingPoint::new(ExtDay::NEG, ExtDay::POS).ok_or(NotAPoint)
 }
+
+#[cfg(test)]
+mod tests {
+    use super::*;
+    use std::test::Fail;
+
+    #[test]
+    fn each_form_of_a_point_is_read(rt: HostRuntime) -> Result<(), Fail> {
+        for (text, low, high) in [
+            ("2020-01-01", "2020-01-01", "2020-01-01"),
+            ("infinity", "infinity", "infinity"),
+            ("now", "-infinity", "infinity"),
+            ("2020-01-01+", "2020-01-01", "infinity"),
+            ("+2020-06-30", "-infinity", "2020-06-30"),
+            ("2020-01-01+2021-01-01", "2020-01-01", "2021-01-01"),
+            ("-000044-03-15+2020-01-01", "-000044-03-15", "2020-01-01"),
+        ] {
+            let point = read_point(text.as_bytes())?;
+            assert_eq!(rt; point.low(), read_day(low.as_bytes())?, "{text}");
+            assert_eq!(rt; point.high(), read_day(high.as_bytes())?, "{text}");
+        }
+        Ok(())
+    }
+
+    #[test]
+    fn no_other_text_is_a_point(rt: HostRuntime) {
+        for text in [
+            "+",
+            "now+",
+            "2020-01-01+2020-01-01",
+            "2021-01-01+2020-01-01",
+            "infinity+",
+            "-infinity+2020-01-01",
+            " now",
+            "",
+        ] {
+            assert!(rt; read_point(text.as_bytes()).is_err(), "{text}");
+        }
+    }
+}

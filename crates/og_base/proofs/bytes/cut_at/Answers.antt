@@ -1,5 +1,4 @@
-use Rattle.std.proofs.Common.{◌≡◌, ◌∙◌, sym, arith, ap, drop, take, length, length-drop}
-use Rattle.og_base.specs.Bytes.{IsCutAt}
+use Rattle.std.proofs.Common.{◌∙◌, sym, arith}
 use Rattle.og_base.proofs.ByteLemmas.{lacks-position, cut-position}
 use Rattle.og_base.proofs.bytes.cut_at.Goals as goal
 

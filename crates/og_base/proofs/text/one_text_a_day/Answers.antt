@@ -1,4 +1,3 @@
-use Rattle.og_base.proofs.CivilDays.{civil_day_is}
 use Rattle.og_base.proofs.DayTexts.{one_text, day_text_is, Lacks-day_text}
 use Rattle.og_base.proofs.text.one_text_a_day.Goals as goal
 

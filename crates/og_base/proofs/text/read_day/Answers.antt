@@ -1,6 +1,5 @@
 use Rattle.std.proofs.Common.{inr}
 use Rattle.std.proofs.lemmas.Result.{err_from_is_err_and}
-use Rattle.og_base.specs.Calendar.{IsRefDayText}
 use Rattle.og_base.proofs.DayTexts.{differ, no_day_text}
 use Rattle.og_base.proofs.text.read_day.Goals as goal
 

@@ -1,4 +1,4 @@
-use Rattle.std.proofs.Common.{◌∙◌, sym, refl, Ok}
+use Rattle.std.proofs.Common.{◌∙◌, sym, refl}
 use Rattle.std.proofs.lemmas.Slice.Eq.{bytes_eq-Decides}
 use Rattle.og_base.proofs.ReadTexts.{read_text, printed_is_read, not_false, not_true}
 use Rattle.og_base.proofs.text.read_ref_day.Goals as goal
@@ -15,7 +15,7 @@ returns-then-ne-clause-refused c n h =
 
 pub returns-clause-value : goal.returns-clause-value
 returns-clause-value c = rw c.day_of.ensures (
-    c.in-Ok.date,
-    sym ((bytes_eq-Decides _ _).0 (not_false _ (sym c.ne.ensures ∙ c.if-ne.false))) ∙ c.as_bytes.ensures.value ∙ c.as_str.ensures.value ∙ c.date_text-written.ensures,
-    refl,
-  )
+  c.in-Ok.date,
+  sym ((bytes_eq-Decides _ _).0 (not_false _ (sym c.ne.ensures ∙ c.if-ne.false))) ∙ c.as_bytes.ensures.value ∙ c.as_str.ensures.value ∙ c.date_text-written.ensures,
+  refl,
+)

@@ -1,7 +1,5 @@
-use Rattle.std.proofs.Common.{◌≡◌, ◌==◌, ◌∙◌, inl, inr, length, ap, sym, arith}
+use Rattle.std.proofs.Common.{inl, inr, length, ap, arith}
 use Rattle.std.proofs.lemmas.Bool.Decides.{nat_tests}
-use Rattle.og_base.specs.Calendar.{IsRefDayText}
-use Rattle.og_time.specs.Point.{IsEndText}
 use Rattle.og_time.proofs.text.read_end.Goals as goal
 
 pub returns-in-Ok-clause-value : goal.returns-in-Ok-clause-value

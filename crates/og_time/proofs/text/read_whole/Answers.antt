@@ -1,8 +1,5 @@
-use Rattle.std.proofs.Common.{refl, inl, inr, arith, ◌∙◌, ◌≡◌, ap, sym, subst, ℤ}
-use Rattle.std.proofs.lemmas.Int.{ints}
+use Rattle.std.proofs.Common.{refl, inl, inr}
 use Rattle.std.proofs.lemmas.Result.{IfOk-weaker, on_err_weaker}
-use Rattle.og_base.specs.Calendar.{IsDayText}
-use Rattle.og_time.specs.Point.{Point, IsFixedText, IsNowText, IsWholeText}
 use Rattle.og_time.proofs.PointTexts.{made}
 use Rattle.og_time.proofs.text.read_whole.Goals as goal
 
