@@ -3,6 +3,7 @@ ghost use Rattle.std.specs.Prelude.{◌≡◌, ◌≤◌, ℕ, List, Option, Err
 ghost use Rattle.std.specs.Io.KnownBytes.{Appends};
 ghost use Rattle.og_base.specs.Told.{Rose, AppendsFront};
 
+use og_base::NoMemory;
 use thiserror::Error;
 
 /// Why a sink refused a piece.
@@ -14,6 +15,16 @@ pub enum PutRefusal {
     /// Memory ran out.
     #[error("want of memory")]
     NoMemory,
+}
+
+impl From<NoMemory> for PutRefusal {
+    ghost use Rattle.og_io.specs.declared.sink.PutRefusal.{PutRefusal};
+
+    ghost from_gives = { λ _ e. e ≡ PutRefusal.NoMemory };
+
+    fn from(_: NoMemory) -> PutRefusal {
+        PutRefusal::NoMemory
+    }
 }
 
 /// Where bytes go.

@@ -1,0 +1,9 @@
+pub mod LayoutLemmas
+pub mod LaterLemmas
+pub mod OneRun
+pub mod PieceLemmas
+pub mod ScriptLemmas
+pub mod StatementTexts
+pub mod RunLemmas
+pub mod WorldLemmas
+pub mod EndLemmas

@@ -1,0 +1,12 @@
+pub mod Actions
+pub mod Ends
+pub mod Headline
+pub mod Names
+pub mod Output
+pub mod Reading
+pub mod Records
+pub mod Script
+pub mod Statements
+pub mod Stops
+pub mod Table
+pub mod World
