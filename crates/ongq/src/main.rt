@@ -1,7 +1,7 @@
 //! ongq: runs a script over ongoing dates from standard input.
 #![tactic(auto)]
 
-use og_base::{NoMemory, Words};
+use og_base::Words;
 use og_io::{StdSink, StdSource};
 use og_session::run;
 use std::env;
