@@ -1,0 +1,15 @@
+//! Whole runs, from the words and the bytes in to the bytes and the status out.
+#![tactic(auto)]
+
+#[cfg(test)]
+mod devices;
+#[cfg(test)]
+mod faults;
+#[cfg(test)]
+mod limits;
+#[cfg(test)]
+mod memory;
+#[cfg(test)]
+mod prints;
+#[cfg(test)]
+mod runs;

@@ -1,0 +1,42 @@
+//! The longest source, and a script of many statements.
+use crate::runs::ran_whole;
+use std::test::Fail;
+
+#[test]
+fn a_source_may_have_16_777_216_bytes_and_no_more(rt: HostRuntime) -> Result<(), Fail> {
+    for (length, status, written) in [
+        (16_777_216, 0, b"".as_slice()),
+        (16_777_217, 3, b"fault source too long\n".as_slice()),
+    ] {
+        let end = ran_whole(&rt, vec![in rt.alloc(); b' '; length]?.as_slice())?;
+        assert_eq!(rt; end.status, status, "{length} spaces");
+        assert_eq!(rt; end.written.as_slice(), written, "{length} spaces");
+    }
+    Ok(())
+}
+
+// Points of four days, each with the feed that parts it from the next statement.
+const INSERTS: [&[u8]; 4] = [
+    b"INSERT INTO t VALUES (ONGOING '2020-03-04');\n",
+    b"INSERT INTO t VALUES (ONGOING 'infinity');\n",
+    b"INSERT INTO t VALUES (ONGOING '0001-01-01');\n",
+    b"INSERT INTO t VALUES (ONGOING '2020-03-03');\n",
+];
+
+#[test]
+fn a_script_of_20_000_rows_prints_its_distinct_days(rt: HostRuntime) -> Result<(), Fail> {
+    let mut script = b"CREATE TABLE t (p DATE);\n".to_vec(rt.alloc())?;
+    for _ in 0..5_000 {
+        for insert in INSERTS {
+            script.extend_from_slice(insert)?;
+        }
+    }
+    script.extend_from_slice(b"PRINT t AS OF DATE '2020-05-01';\n")?;
+    let end = ran_whole(&rt, script.as_slice())?;
+    assert_eq!(rt; end.status, 0);
+    assert_eq!(rt;
+        end.written.as_slice(),
+        b"p\n0001-01-01\n2020-03-03\n2020-03-04\ninfinity\n".as_slice()
+    );
+    Ok(())
+}
