@@ -3,3 +3,5 @@ pub mod CivilDays
 pub mod DayTexts
 pub mod ReadTexts
 pub mod SetLemmas
+pub mod TextForms
+pub mod OldTexts

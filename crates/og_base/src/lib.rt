@@ -2,15 +2,23 @@
 #![tactic(auto)]
 
 mod bytes;
+mod comparison;
 mod day;
 mod memory;
+mod range;
+mod row;
 mod set;
 mod text;
+mod text_laws;
 mod words;
 
 pub use bytes::cut_at;
+pub use comparison::{Envelope, Outer, Steps};
 pub use day::{ExtDay, RefDay};
 pub use memory::NoMemory;
+pub use range::{Cut, DayRange, FixedPeriod};
+pub use row::{Glue, Instant, OngoingRow, RowMap};
 pub use set::rising;
 pub use text::{NotADay, one_text_a_day, read_day, read_ref_day, write_day};
+pub use text_laws::{form_of_day_texts, old_day_texts};
 pub use words::Words;

@@ -1,0 +1,38 @@
+-- The day texts of the earlier calendar, whose first day was 0001-01-01. Its numbers are written out.
+use Rattle.std.specs.Prelude.{◌≡◌, ◌⊎◌, ◌≤◌, ◌++◌, ℕ, ℤ, pos, neg_ℤ, List, ◌∷◌, codes, if◌then◌else◌}
+use Rattle.std.specs.Ordering.{int_eq}
+use Rattle.jiff_core.specs.Calendar.{IsCivilDate, days_from_civil}
+use Rattle.og_base.specs.Calendar.{before_all}
+use Rattle.og_base.specs.TextForms.{two_digits, four_digits}
+
+-- 0001-01-01, counted from 1970-01-01
+abbrev pub old_first : ℤ
+old_first = neg_ℤ (pos 719_162)
+
+-- 9999-12-31
+abbrev pub old_last : ℤ
+old_last = pos 2_932_896
+
+-- -infinity
+abbrev pub old_before : ℤ
+old_before = neg_ℤ (pos 719_163)
+
+-- infinity
+abbrev pub old_after : ℤ
+old_after = pos 2_932_897
+
+-- four digits, a dash, two digits, a dash, two digits, which name a civil day from 0001-01-01 to 9999-12-31
+abbrev pub IsOldRefDayText : List ℕ → ℤ → Type 0
+IsOldRefDayText text n =
+    (y : ℕ) × (m : ℕ) × (d : ℕ) × (1 ≤ y) × IsCivilDate (pos y) m d
+    × (text ≡ four_digits y ++ 45 ∷ two_digits m ++ 45 ∷ two_digits d) × (n ≡ days_from_civil (pos y) m d)
+
+-- a day text of the earlier calendar, and the number that its day had there
+abbrev pub IsOldDayText : List ℕ → ℤ → Type 0
+IsOldDayText text n =
+    ((text ≡ codes "-infinity") × (n ≡ old_before))
+    ⊎ (((text ≡ codes "infinity") × (n ≡ old_after)) ⊎ IsOldRefDayText text n)
+
+-- the number that the day has now: that of -infinity is another, each other is the same
+abbrev pub now_number : ℤ → ℤ
+now_number n = if int_eq n old_before then before_all else n

@@ -1,0 +1,96 @@
+//! Rows whose value depends on the day, and what is done with such rows on every day at once.
+ghost use Rattle.std.specs.Prelude.{◌≡◌, ℤ, IfOk};
+ghost use Rattle.og_base.specs.Calendar.{IsRefDay};
+ghost use Rattle.og_base.specs.Set.{IsExact};
+
+use crate::day::RefDay;
+use crate::memory::NoMemory;
+use std::alloc::Global;
+
+/// A value that depends on the day.
+pub trait Instant {
+    /// The value on one day. Its order is total.
+    type Fixed: Ord + Drop;
+
+    ghost meaning: { Self → ℤ → Self.Fixed };
+
+    /// The value on the day.
+    fn at(&self, alloc: Global, d: RefDay) -> Result<Self::Fixed, NoMemory>
+        ensures { IfOk result (λ x. x ≡ meaning self.now d) };
+
+    /// The order answers Equal only for two values that contracts see as the same.
+    ghost exact: { IsExact Self.Fixed.cmp };
+}
+
+/// A row whose value depends on the day.
+pub trait OngoingRow: Instant {
+    /// The same row once more.
+    fn copy(&self, alloc: Global) -> Result<Self, NoMemory>
+        ensures { IfOk result (λ r. r ≡ self.now) };
+}
+
+/// Rows of which two are glued to one.
+pub trait Glue: OngoingRow {
+    ghost glued: { Self.Fixed → Self.Fixed → Self.Fixed };
+
+    /// The row that is, on each day, the two rows of that day glued.
+    fn glue(&self, alloc: Global, right: &Self) -> Result<Self, NoMemory>
+        ensures { IfOk result (λ r. (d : ℤ) → IsRefDay d →
+            Self.meaning r d ≡ glued (Self.meaning self.now d) (Self.meaning right.now d)) };
+}
+
+/// A map of the rows of a day.
+pub trait RowMap<R: Instant> {
+    ghost image: { Self → ℤ → R.Fixed → R.Fixed };
+
+    /// The row that is, on each day, the image of the row of that day.
+    fn map(&self, alloc: Global, row: &R) -> Result<R, NoMemory>
+        ensures { IfOk result (λ r. (d : ℤ) → IsRefDay d →
+            R.meaning r d ≡ image self.now d (R.meaning row.now d)) };
+}
+
+#[cfg(test)]
+mod tests {
+    use super::*;
+
+    // The day itself.
+    #[derive(Drop)]
+    struct Today;
+
+    impl Instant for Today {
+        ghost use Rattle.std.proofs.lemmas.Map.Lookups.{exact_signed};
+
+        type Fixed = RefDay;
+
+        ghost meaning = { λ row d. d };
+
+        fn at(&self, _alloc: Global, d: RefDay) -> Result<RefDay, NoMemory> {
+            Ok(d)
+        }
+
+        ghost exact = { exact_signed };
+    }
+
+    impl OngoingRow for Today {
+        fn copy(&self, _alloc: Global) -> Result<Today, NoMemory> {
+            Ok(Today)
+        }
+    }
+
+    impl Glue for Today {
+        ghost glued = { λ left right. left };
+
+        fn glue(&self, _alloc: Global, _right: &Today) -> Result<Today, NoMemory> {
+            Ok(Today)
+        }
+    }
+
+    #[test]
+    fn a_row_has_a_value_on_each_day(rt: HostRuntime) -> Result<(), NoMemory> {
+        let row = Today.copy(rt.alloc())?.glue(rt.alloc(), &Today)?;
+        for d in [RefDay::FIRST, RefDay::LAST] {
+            assert_eq!(rt; row.at(rt.alloc(), d)?, d);
+        }
+        Ok(())
+    }
+}
