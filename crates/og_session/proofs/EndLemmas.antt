@@ -1,5 +1,5 @@
 -- How a run ends, and what the defined run says of it.
-use Rattle.std.proofs.Common.{◌≡◌, ◌++◌, ◌≤◌, ◌↔◌, ◌⊎◌, inl, inr, ℕ, Bool, true, List, [], ◌∷◌, length, get_or, IsTrue, Option, Result, Ok, Err, codes, refl, sym, ap, ◌∙◌, subst, arith}
+use Rattle.std.proofs.Common.{◌≡◌, ◌++◌, ◌≤◌, ◌↔◌, ◌⊎◌, inl, inr, ℕ, Bool, List, [], ◌∷◌, length, get_or, IsTrue, Option, Result, Ok, Err, codes, refl, sym, ap, ◌∙◌, subst, arith}
 use Rattle.std.specs.Str.{bytes_eq}
 use Rattle.std.specs.Io.KnownBytes.{Appends}
 use Rattle.std.proofs.KnownBytes.{Appends-trans}
@@ -58,10 +58,6 @@ script_cut words source ss old new puts.NoMemory run small script (front, prefix
 pub ends_of : (words : List (List ℕ)) (bytes source : List ℕ) (old new : Option (List ℕ)) (result : Result (Unit {0}) Stop) → bytes ≡ source
     → (text : List ℕ) × Appends old new text × EndsUnreported words bytes text result → (text : List ℕ) × Appends old new text × EndsUnreported words source text result
 ends_of words bytes source old new result e (text, appended, ends) = (text, appended, subst (λ l. EndsUnreported words l text result) e ends)
-
--- words that the test did not refuse
-pub run_unless : (b : Bool) (P : Type 0) → IsTrue b ↔ P → b ≡ true → P
-run_unless b P h t = h.0 t
 
 -- an end that is no fault has no line
 pub ends_unfaulted : (words : List (List ℕ)) (source : List ℕ) (old new : Option (List ℕ)) (end : Result (Unit {0}) Stop) → ((fault : Fault) → end ≡ Err (stops.Fault fault) → ⊥)

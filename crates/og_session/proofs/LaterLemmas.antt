@@ -1,6 +1,6 @@
 -- Pieces that say later statements, one more at a time.
 use Rattle.std.proofs.Common.{◌≡◌, ◌++◌, ◌+◌, ℕ, suc, List, [], ◌∷◌, length, map, refl, sym, ap, ◌∙◌, subst, arith}
-use Rattle.std.proofs.lemmas.List.{append_assoc, append-nil, map-append, length-map}
+use Rattle.std.proofs.lemmas.List.{append_assoc, map-append, length-map}
 use Rattle.og_session.specs.Statements.{Statement, Create, Insert, Print, Says}
 use Rattle.og_session.specs.Script.{IsLater, SayLater, IsScript, IsFault, IsLaterFault}
 use Rattle.og_session.specs.Actions.{said}
@@ -40,19 +40,12 @@ pub record IsTaken (table : List ℕ) (source left : List (List ℕ)) (acts : Li
   pub parts : source ≡ taken ++ left
   pub say : SayLater table taken (map (said table) acts)
 
-pub taken-none : (table : List ℕ) (source : List (List ℕ)) → IsTaken table source source []
-taken-none table source = record { taken = []; parts = refl; say = tt }
-
 pub taken-more : (table : List ℕ) (source left rest : List (List ℕ)) (acts : List Action) (piece : List ℕ) (a : Action) → IsTaken table source left acts → left ≡ piece ∷ rest → Says piece (said table a) → IsTaken table source rest (acts ++ a ∷ [])
 taken-more table source left rest acts piece a t e says = record {
   taken = t.taken ++ piece ∷ [];
   parts = t.parts ∙ ap (λ l. t.taken ++ l) e ∙ sym (append_assoc t.taken (piece ∷ []) rest);
   say = subst (SayLater table (t.taken ++ piece ∷ [])) (sym (map-append (said table) acts (a ∷ []))) (SayLater-push table t.taken (map (said table) acts) piece (said table a) t.say says (IsLater-said table a));
 }
-
--- all pieces were taken
-pub taken-all : (table : List ℕ) (source left : List (List ℕ)) (acts : List Action) → IsTaken table source left acts → left ≡ [] → SayLater table source (map (said table) acts)
-taken-all table source left acts t e = subst (λ l. SayLater table l (map (said table) acts)) (sym (t.parts ∙ ap (λ l. t.taken ++ l) e ∙ append-nil t.taken)) t.say
 
 -- the next piece says no later statement
 pub taken-fault : (table : List ℕ) (source left rest : List (List ℕ)) (acts : List Action) (piece : List ℕ) (place : ℕ) → IsTaken table source left acts → left ≡ piece ∷ rest → length acts ≡ place

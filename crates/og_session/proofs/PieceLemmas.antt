@@ -71,12 +71,17 @@ cut_some (b ∷ bs) =
     cond_both (b == 59) ((b ∷ []) ∷ cut bs) (onto b (cut bs)) (λ l. (p : List ℕ) × (ps : List (List ℕ)) × (l ≡ p ∷ ps))
     (λ _. (b ∷ [], cut bs, refl)) (λ _. (b ∷ r.0, r.1, ap (onto b) r.2))
 
-blank_is : (b : ℕ) → is_blank b ≡ true → (b == 59) ≡ false
-blank_is b h = by (b == 59) refl
+-- a byte that is no semicolon
+differs : (b : ℕ) → (b ≡ 59 → ⊥) → (b == 59) ≡ false
+differs b h = by (b == 59) refl
   where
     by : (t : Bool) → (b == 59) ≡ t → t ≡ false
     by false e = refl
-    by true e = absurd (cc (sym (ap is_blank ((Decides-eqb b 59).0 e)) ∙ h))
+    by true e = absurd (h ((Decides-eqb b 59).0 e))
+
+-- a blank is no semicolon
+blank_differs : (b : ℕ) → is_blank b ≡ true → (b == 59) ≡ false
+blank_differs b h = differs b (λ e. cc (sym (ap is_blank e) ∙ h))
 
 -- what is left of a piece that is kept
 abbrev kept : List (List ℕ) → List (List ℕ)
@@ -85,7 +90,7 @@ kept pieces = filter (λ piece. not (length piece == 0)) (map trimmed pieces)
 pieces_of-blank : (b : ℕ) (bs : List ℕ) → is_blank b ≡ true → pieces_of (b ∷ bs) ≡ pieces_of bs
 pieces_of-blank b bs h =
     let r = cut_some bs in
-    let first : cut (b ∷ bs) ≡ (b ∷ r.0) ∷ r.1 = cond-false (b == 59) ((b ∷ []) ∷ cut bs) (onto b (cut bs)) (blank_is b h) ∙ ap (onto b) r.2 in
+    let first : cut (b ∷ bs) ≡ (b ∷ r.0) ∷ r.1 = cond-false (b == 59) ((b ∷ []) ∷ cut bs) (onto b (cut bs)) (blank_differs b h) ∙ ap (onto b) r.2 in
     let same : trimmed (b ∷ r.0) ≡ trimmed r.0 = cond-true (is_blank b) (trimmed r.0) (b ∷ r.0) h in
     ap kept first ∙ ap (λ l. filter (λ piece. not (length piece == 0)) (l ∷ map trimmed r.1)) same ∙ ap kept (sym r.2)
 
@@ -95,13 +100,6 @@ pieces_of-trimmed [] = refl
 pieces_of-trimmed (x ∷ xs) =
     let rest = pieces_of-trimmed xs in
     cond_both (is_blank x) (trimmed xs) (x ∷ xs) (λ l. pieces_of l ≡ pieces_of (x ∷ xs)) (λ t. rest ∙ sym (pieces_of-blank x xs t)) (λ _. refl)
-
-differs : (b : ℕ) → (b ≡ 59 → ⊥) → (b == 59) ≡ false
-differs b h = by (b == 59) refl
-  where
-    by : (t : Bool) → (b == 59) ≡ t → t ≡ false
-    by false e = refl
-    by true e = absurd (h ((Decides-eqb b 59).0 e))
 
 cut-piece : (before after : List ℕ) → Lacks 59 before → cut (before ++ 59 ∷ after) ≡ (before ++ 59 ∷ []) ∷ cut after
 cut-piece [] after h = refl
@@ -148,7 +146,3 @@ next-piece xs source before after first last e cut f g =
 pub last-piece : (xs source : List ℕ) → source ≡ trimmed xs → Lacks 59 source → (length source == 0) ≡ false → pieces_of xs ≡ source ∷ []
 last-piece xs [] e lacks h = absurd (grind (arith, nat_tests, h))
 last-piece xs (x ∷ source) e lacks h = sym (pieces_of-trimmed xs) ∙ ap pieces_of (sym e) ∙ pieces_of-last x source lacks (ap trimmed e ∙ trimmed-trimmed xs ∙ sym e)
-
--- it is longer than what stands after it: nothing
-pub last-shorter : (xs source : List ℕ) → source ≡ trimmed xs → (length source == 0) ≡ false → 0 < length xs
-last-shorter xs source e h = let long = length-trimmed xs in grind (arith, nat_tests, h, long, ap length e)

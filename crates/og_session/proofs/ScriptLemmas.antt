@@ -41,15 +41,15 @@ pub Lacks-name : (word : List ℕ) → is_name word ≡ true → Lacks 32 word
 unfolding is_name
 Lacks-name word h = word_lacks word (and_parts (is_word word) (not (is_reserved word)) h).0
 
--- the text of a statement, cut at the space after its name
-name_and_rest : (front between end name other : List ℕ) → front ++ name ++ 32 ∷ between ++ other ++ end ≡ front ++ (name ++ 32 ∷ (between ++ (other ++ end)))
-name_and_rest front between end name other = simp append_assoc
+-- the parts of a statement's text, from its front on
+pub grouped : (front name middle text end : List ℕ) → front ++ name ++ middle ++ text ++ end ≡ front ++ (name ++ (middle ++ (text ++ end)))
+grouped front name middle text end = simp append_assoc
 
 -- texts of statements with the same words round their parts have the same parts
 said_once : (front between end m n s t : List ℕ) → Lacks 32 m → Lacks 32 n
     → front ++ m ++ 32 ∷ between ++ s ++ end ≡ front ++ n ++ 32 ∷ between ++ t ++ end → (m ≡ n) × (s ≡ t)
 said_once front between end m n s t h k e =
-    let same = sym (name_and_rest front between end m s) ∙ e ∙ name_and_rest front between end n t in
+    let same = sym (grouped front m (32 ∷ between) s end) ∙ e ∙ grouped front n (32 ∷ between) t end in
     let parts = cut_once 32 m n (between ++ (s ++ end)) (between ++ (t ++ end)) h k (append_cancel_left front _ _ same) in
     (parts.0, append_cancel_right s t end (append_cancel_left between _ _ parts.1))
 

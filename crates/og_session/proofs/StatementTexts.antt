@@ -8,7 +8,7 @@ use Rattle.std.specs.Str.{bytes_eq}
 use Rattle.og_base.specs.Bytes.{IsCutAt}
 use Rattle.og_base.proofs.ByteLemmas.{cut_once}
 use Rattle.og_session.specs.Names.{is_name}
-use Rattle.og_session.proofs.ScriptLemmas.{Lacks-name}
+use Rattle.og_session.proofs.ScriptLemmas.{Lacks-name, grouped}
 use Rattle.og_session.specs.Statements.{Statement, Create, Insert, Print, Says, create_text}
 use Rattle.og_session.specs.Script.{IsLater}
 use Rattle.og_time.specs.Point.{Point}
@@ -47,10 +47,6 @@ last_part text rest end e =
 pub before_missing : (r : Option (Bor (List ℕ))) (text end : List ℕ) → MatchOption r (bytes_eq (drop (length text - length end) text) end ≡ false) (IsShortened text end) → IfNone r ((rest : List ℕ) → text ≡ rest ++ end → ⊥)
 before_missing None text end h = λ rest e. told_apart _ _ h (last_part text rest end e)
 before_missing (Some x) text end h = tt
-
--- the parts of a statement's text, from its front on
-pub grouped : (front name middle text end : List ℕ) → front ++ name ++ middle ++ text ++ end ≡ front ++ (name ++ (middle ++ (text ++ end)))
-grouped front name middle text end = simp append_assoc
 
 -- what follows from a clause on an option
 pub IfNone-weaker : {A P Q : Type 0} (r : Option A) → (P → Q) → IfNone r P → IfNone r Q

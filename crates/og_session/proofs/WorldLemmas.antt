@@ -6,7 +6,7 @@ use Rattle.std.proofs.lemmas.Slice.Eq.{bytes_eq-Decides}
 use Rattle.std.specs.Str.{bytes_eq}
 use Rattle.og_base.specs.Set.{set_of}
 use Rattle.og_base.proofs.SetLemmas.{set_of-push, days_exact}
-use Rattle.og_time.specs.Point.{point_at}
+use Rattle.og_time.specs.Point.{Point, point_at}
 use Rattle.og_session.specs.Statements.{Create}
 use Rattle.og_session.specs.World.{Table, ordinary_statement, world_of_day}
 use Rattle.og_session.specs.Output.{layout, printed, piece_of, output_from}
@@ -49,10 +49,6 @@ piece_is name column acts (actions.Print d) =
 abbrev pub text_from : List ℕ → List ℕ → List Action → List Action → List ℕ
 text_from name column before acts = output_from (statements_of name column before) (map (said name) acts)
 
--- all of it
-pub text_whole : (name column : List ℕ) (acts : List Action) → text_from name column [] acts ≡ output_from [] (statements_of name column acts)
-text_whole name column acts = refl
-
 -- one action more
 pub text_more : (name column : List ℕ) (before acts : List Action) (a : Action) → text_from name column before (a ∷ acts) ≡ action_text column (points_of before) a ++ text_from name column (before ++ a ∷ []) acts
 text_more name column before acts a =
@@ -72,14 +68,17 @@ left_at name column acts i a h e =
     let front = take_more acts i a h ∙ ap (λ x. take i acts ++ x ∷ []) (sym e) in
     ap (text_from name column (take i acts)) left ∙ text_more name column (take i acts) (drop (i + 1) acts) a ∙ ap (λ l. action_text column (points_of (take i acts)) a ++ text_from name column l (drop (i + 1) acts)) (sym front)
 
--- the points up to a place and the one there
-pub points_at : (acts : List Action) (i : ℕ) (a : Action) → i < length acts → a ≡ get_or acts i a → points_of (take (i + 1) acts) ≡ points_of (take i acts) ++ points_of (a ∷ [])
-points_at acts i a h e = ap points_of (take_more acts i a h ∙ ap (λ x. take i acts ++ x ∷ []) (sym e)) ∙ points_of-append (take i acts) (a ∷ [])
-
--- one turn of a loop over the actions: `seen` is the same list as the loop sees it
-pub record IsTurn (seen acts : List Action) (i : ℕ) (a : Action) : Type 0 where
+-- one turn of a loop over the actions
+pub record IsTurn (acts : List Action) (i : ℕ) (a : Action) : Type 0 where
   pub within : i < length acts
   pub item : a ≡ get_or acts i a
 
-pub turn : (seen acts : List Action) (i : ℕ) (a : Action) → seen ≡ acts → i < length seen → a ≡ get_or seen i a → IsTurn seen acts i a
+-- the turn, from the list as the loop sees it
+pub turn : (seen acts : List Action) (i : ℕ) (a : Action) → seen ≡ acts → i < length seen → a ≡ get_or seen i a → IsTurn acts i a
 turn seen acts i a e h f = record { within = subst (λ l. i < length l) e h; item = subst (λ l. a ≡ get_or l i a) e f }
+
+-- the points up to a place and those of the action there
+pub points-more : (acts : List Action) (points new : List Point) (i : ℕ) (a : Action) → IsTurn acts i a → points ≡ points_of (take i acts) → new ≡ points ++ points_of (a ∷ []) → new ≡ points_of (take (i + 1) acts)
+points-more acts points new i a t p e =
+    let one = ap points_of (take_more acts i a t.within ∙ ap (λ x. take i acts ++ x ∷ []) (sym t.item)) in
+    e ∙ ap (λ ps. ps ++ points_of (a ∷ [])) p ∙ sym (one ∙ points_of-append (take i acts) (a ∷ []))

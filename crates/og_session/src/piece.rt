@@ -26,14 +26,14 @@ pub fn next_piece(source: &[u8]) -> Option<(&[u8], &[u8])>
 fn trimmed(bytes: &[u8]) -> &[u8]
     ensures { result.now ≡ trimmed bytes.now }
 {
-    match first_of_statement(bytes) {
+    match first_not_blank(bytes) {
         Some(place) => bytes.split_at(place).1,
         None => &[],
     }
 }
 
 // The place of the first byte that is not blank.
-fn first_of_statement(bytes: &[u8]) -> Option<usize>
+fn first_not_blank(bytes: &[u8]) -> Option<usize>
     ensures { result ≡ position_from (λ b. not (is_blank b)) 0 bytes.now }
 {
     bytes.iter().position(|b| !is_blank(*b))

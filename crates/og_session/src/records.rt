@@ -22,25 +22,25 @@ pub fn layout(alloc: Global, column: &[u8], days: &[ExtDay]) -> Result<Vec<u8>, 
 fn all_records(alloc: Global, column: &[u8], days: &[ExtDay]) -> Result<Vec<u8>, Error>
     ensures { IfOk result (λ v. v.items ≡ layout column.now days.now) }
 {
-    let mut wtr = WriterBuilder::new().from_writer(Vec::new(alloc));
-    write_record(&mut wtr, column)?;
+    let mut writer = WriterBuilder::new().from_writer(Vec::new(alloc));
+    write_record(&mut writer, column)?;
     let mut cell = Vec::new(alloc);
     'days: for day in days {
         cell.clear();
         let Ok(()) = write_day(*day, &mut cell) else {
             return Err(Error::out_of_memory());
         };
-        write_record(&mut wtr, cell.as_slice())?;
+        write_record(&mut writer, cell.as_slice())?;
     }
-    match wtr.into_inner() {
+    match writer.into_inner() {
         Ok(text) => Ok(text),
         Err(e) => Err(e.into_error()),
     }
 }
 
 // Writes a record of one field.
-fn write_record(wtr: &mut Writer<Vec<u8>>, field: &[u8]) -> Result<(), Error>
-    ensures { OnOk result ((text : List ℕ) → HasText wtr.old text → HasText wtr.new (text ++ row_text default_writer (field.now ∷ []))) }
+fn write_record(writer: &mut Writer<Vec<u8>>, field: &[u8]) -> Result<(), Error>
+    ensures { OnOk result ((text : List ℕ) → HasText writer.old text → HasText writer.new (text ++ row_text default_writer (field.now ∷ []))) }
 {
-    wtr.write_fields(&[field])
+    writer.write_fields(&[field])
 }

@@ -1,9 +1,6 @@
-use Rattle.std.proofs.Common.{◌≡◌, ◌≤◌, [], take, drop}
-use Rattle.og_session.specs.Actions.{statements_of}
-use Rattle.og_session.specs.Output.{output_from}
+use Rattle.std.proofs.Common.{◌≡◌, ◌≤◌, take}
 use Rattle.og_session.specs.Table.{points_of}
-use Rattle.og_session.proofs.RunLemmas.{IsWritten}
-use Rattle.og_session.proofs.WorldLemmas.{text_from}
+use Rattle.og_session.proofs.RunLemmas.{IsWrittenTo}
 use Rattle.og_session.proofs.carry.run_script.Given as goal
 
 abbrev pub invariant-actions : goal.invariant-actions
@@ -11,7 +8,5 @@ invariant-actions g l = record {
   column : l.table.column.now ≡ l.script.column.now;
   points : l.table.points.items ≡ points_of (take l.action-index l.script.actions.items);
   later : g.K.Sink.faults l.fn.out ≤ g.K.Sink.faults l.out;
-  written : IsWritten (g.K.Sink.written l.fn.out) (g.K.Sink.written l.out)
-      (text_from l.script.name.now l.script.column.now (take l.action-index l.script.actions.items) (drop l.action-index l.script.actions.items))
-      (output_from [] (statements_of l.script.name.now l.script.column.now l.script.actions.items));
+  written : IsWrittenTo (g.K.Sink.written l.fn.out) (g.K.Sink.written l.out) l.script.name.now l.script.column.now l.script.actions.items l.action-index;
 }

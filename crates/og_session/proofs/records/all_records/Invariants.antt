@@ -5,4 +5,4 @@ use Rattle.og_session.specs.Records.{HasText}
 use Rattle.og_session.proofs.records.all_records.Given as goal
 
 abbrev pub invariant-days : goal.invariant-days
-invariant-days l = HasText l.wtr (layout l.column (take l.day-index l.days))
+invariant-days l = HasText l.writer (layout l.column (take l.day-index l.days))
