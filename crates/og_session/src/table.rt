@@ -83,6 +83,10 @@ impl<'a> Table<'a> {
 fn days_on(alloc: Global, points: &[OngoingPoint], day: RefDay) -> Result<Vec<ExtDay>, NoMemory>
     ensures { IfOk result (λ days. days.items ≡ map (λ p. point_at p day) points.now) }
 {
-    let days = points.iter().map(|point| point.at(day)).collect(alloc)?;
+    // The memory is taken at once, so that want of it ends the run.
+    let mut days = Vec::with_capacity(alloc, points.len())?;
+    'points: for point in points {
+        days.push(point.at(day))?;
+    }
     Ok(days)
 }
