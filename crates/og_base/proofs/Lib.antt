@@ -1,7 +1,11 @@
+pub mod BoundaryLemmas
 pub mod ByteLemmas
 pub mod CivilDays
 pub mod DayTexts
+pub mod OldTexts
+pub mod RangeLemmas
 pub mod ReadTexts
 pub mod SetLemmas
+pub mod SetOpLemmas
+pub mod SweepLemmas
 pub mod TextForms
-pub mod OldTexts

@@ -1,6 +1,8 @@
+pub mod Boundaries
 pub mod Bytes
 pub mod Calendar
 pub mod Set
+pub mod SetOps
 pub mod Told
 pub mod Ranges
 pub mod TextForms

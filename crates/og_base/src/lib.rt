@@ -1,4 +1,4 @@
-//! Days, their texts, rising sets, and the words that every crate above speaks in.
+//! Days, sets of days and their texts, and the words that every crate above speaks in.
 #![tactic(auto)]
 
 mod bytes;
@@ -7,6 +7,7 @@ mod day;
 mod memory;
 mod range;
 mod row;
+mod rt_set;
 mod set;
 mod text;
 mod text_laws;
@@ -17,7 +18,8 @@ pub use comparison::{Envelope, Outer, Steps};
 pub use day::{ExtDay, RefDay};
 pub use memory::NoMemory;
 pub use range::{Cut, DayRange, FixedPeriod};
-pub use row::{Glue, Instant, OngoingRow, RowMap};
+pub use row::{DayCond, Glue, Instant, OngoingRow, RowMap};
+pub use rt_set::RtSet;
 pub use set::rising;
 pub use text::{NotADay, one_text_a_day, read_day, read_ref_day, write_day};
 pub use text_laws::{form_of_day_texts, old_day_texts};

@@ -1,10 +1,12 @@
 //! Rows whose value depends on the day, and what is done with such rows on every day at once.
-ghost use Rattle.std.specs.Prelude.{◌≡◌, ℤ, IfOk};
+ghost use Rattle.std.specs.Prelude.{◌≡◌, ◌↔◌, ℤ, Bool, true, IfOk};
 ghost use Rattle.og_base.specs.Calendar.{IsRefDay};
+ghost use Rattle.og_base.specs.Ranges.{holds_day};
 ghost use Rattle.og_base.specs.Set.{IsExact};
 
 use crate::day::RefDay;
 use crate::memory::NoMemory;
+use crate::rt_set::RtSet;
 use std::alloc::Global;
 
 /// A value that depends on the day.
@@ -24,6 +26,11 @@ pub trait Instant {
 
 /// A row whose value depends on the day.
 pub trait OngoingRow: Instant {
+    /// The days on which both rows are equal.
+    fn same(&self, alloc: Global, other: &Self) -> Result<RtSet, NoMemory>
+        ensures { IfOk result (λ s. (d : ℤ) → IsRefDay d →
+            ((holds_day s d ≡ true) ↔ (Self.meaning self.now d ≡ Self.meaning other.now d))) };
+
     /// The same row once more.
     fn copy(&self, alloc: Global) -> Result<Self, NoMemory>
         ensures { IfOk result (λ r. r ≡ self.now) };
@@ -37,6 +44,16 @@ pub trait Glue: OngoingRow {
     fn glue(&self, alloc: Global, right: &Self) -> Result<Self, NoMemory>
         ensures { IfOk result (λ r. (d : ℤ) → IsRefDay d →
             Self.meaning r d ≡ glued (Self.meaning self.now d) (Self.meaning right.now d)) };
+}
+
+/// A condition on the rows of a day.
+pub trait DayCond<R: Instant> {
+    ghost holds: { Self → ℤ → R.Fixed → Bool };
+
+    /// The days on which the condition holds of the row.
+    fn days(&self, alloc: Global, row: &R) -> Result<RtSet, NoMemory>
+        ensures { IfOk result (λ s. (d : ℤ) → IsRefDay d →
+            holds_day s d ≡ holds self.now d (R.meaning row.now d)) };
 }
 
 /// A map of the rows of a day.
@@ -72,6 +89,10 @@ mod tests {
     }
 
     impl OngoingRow for Today {
+        fn same(&self, alloc: Global, _other: &Today) -> Result<RtSet, NoMemory> {
+            RtSet::all(alloc)
+        }
+
         fn copy(&self, _alloc: Global) -> Result<Today, NoMemory> {
             Ok(Today)
         }

@@ -1,0 +1,7 @@
+use Rattle.og_base.proofs.RangeLemmas.{none_held}
+use Rattle.og_base.proofs.rt_set.RtSet.is_empty.Goals as goal
+
+pub returns-clause-days : goal.returns-clause-days
+returns-clause-days c =
+    let set = c.self.inside.boundaries in
+    rw (c.is_empty.ensures, ← c.self.view_is) (none_held set.items set.len set.ok.0 c.self.invariant)

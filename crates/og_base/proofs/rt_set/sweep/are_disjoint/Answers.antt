@@ -1,0 +1,31 @@
+use Rattle.std.proofs.Common.{refl, sym, ap₂, ◌∙◌, ◌&&◌, true≢false, false}
+use Rattle.og_base.specs.SetOps.{op_holds}
+use Rattle.og_base.specs.declared.rt_set.sweep.Op.TheVariants.{Meet}
+use Rattle.og_base.proofs.SweepLemmas.{IsPass-start, IsPass-next, IsPass-at, IsPass-end}
+use Rattle.og_base.proofs.SetOpLemmas.{apart, common}
+use Rattle.og_base.proofs.rt_set.sweep.are_disjoint.Goals as goal
+
+pub pass-init : goal.pass-init
+pass-init c =
+    rw (c.of-left.ensures.rest, c.of-left.ensures.inside, c.of-right.ensures.rest, c.of-right.ensures.inside)
+    (IsPass-start (op_holds Meet) c.args.left.now c.args.right.now refl c.requires.left_rises c.requires.right_rises)
+
+pub pass-preserved : goal.pass-preserved
+pass-preserved c =
+    rw (c.pass-left.ensures.rest, c.pass-left.ensures.inside, c.pass-right.ensures.rest, c.pass-right.ensures.inside)
+    (IsPass-next c.pass.invariant c.in-Some.day c.in-Some.ensures.next false
+    (rw (c.pass-left.ensures.inside, c.pass-right.ensures.inside) at (sym c.if-holds.false ∙ c.holds.ensures)))
+
+pub returns-then-holds : goal.returns-then-holds
+returns-then-holds c =
+    let at = IsPass-at c.pass.invariant c.in-Some.day c.in-Some.ensures.next in
+    let both = ap₂ (λ a b. a && b) (at.0 ∙ sym c.pass-left.ensures.inside) (at.1 ∙ sym c.pass-right.ensures.inside) ∙ sym c.holds.ensures ∙ c.if-holds.true in (
+      λ h. absurd (true≢false (sym h)),
+      λ none. absurd (true≢false (sym (common c.args.left.now c.args.right.now c.in-Some.day c.requires.left_rises c.requires.right_rises at.2 both) ∙ none c.in-Some.day)),
+    )
+
+pub returns : goal.returns
+returns c = (
+  λ _. apart c.args.left.now c.args.right.now c.requires.left_rises c.requires.right_rises (IsPass-end c.pass.invariant c.in_default.ensures.ended.0 c.in_default.ensures.ended.1),
+  λ _. refl,
+)

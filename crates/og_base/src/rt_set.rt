@@ -1,0 +1,323 @@
+//! Sets of reference days.
+ghost use Rattle.std.specs.Prelude.{◌≡◌, ℤ, Bool, true, false, not, ◌&&◌, ◌||◌, ◌↔◌, ◌<◌, int_lt, int_le, List, [], ◌∷◌, length, slice_get, slice_index_or, Some, IfOk, IsTrue};
+ghost use Rattle.og_base.specs.Calendar.{IsRefDay, first_day, before_all, after_all};
+ghost use Rattle.og_base.specs.Ranges.{IsNormal, holds_day, ranges_of_cut};
+ghost use Rattle.og_base.specs.Boundaries.{ranges_of, Rises};
+ghost use Rattle.og_base.specs.SetOps.{op_holds};
+
+mod cuts;
+mod sweep;
+
+use crate::day::{ExtDay, RefDay};
+use crate::memory::NoMemory;
+use crate::range::{Cut, DayRange};
+use cuts::cut_boundaries;
+use std::alloc::Global;
+use std::marker::Model;
+use sweep::{Op, are_disjoint, combine};
+
+/// A set of reference days, seen as its ranges: they rise and do not touch.
+#[derive(Drop)]
+pub struct RtSet {
+    alloc: Global,
+    boundaries: Vec<RefDay>,
+}
+
+impl Model for RtSet {
+    ghost use Rattle.std.specs.Prelude.{List};
+    ghost use Rattle.og_base.specs.Calendar.{before_all};
+    ghost use Rattle.og_base.specs.Ranges.{Range};
+    ghost use Rattle.og_base.specs.Boundaries.{ranges_of, Rises};
+
+    ghost Value = { List Range };
+
+    ghost view = { λ s. ranges_of s.boundaries.items };
+
+    ghost invariant = { λ s. Rises before_all s.boundaries.items };
+}
+
+impl RtSet {
+    /// The set without days. Takes no memory.
+    pub fn empty(alloc: Global) -> RtSet
+        ensures { result ≡ [] }
+    {
+        RtSet {
+            alloc,
+            boundaries: Vec::new(alloc),
+        }
+    }
+
+    /// The set of all reference days.
+    pub fn all(alloc: Global) -> Result<RtSet, NoMemory>
+        ensures { IfOk result (λ s. s ≡ record { lo = first_day; hi = after_all } ∷ []) }
+    {
+        let mut boundaries = Vec::with_capacity(alloc, 1)?;
+        boundaries.push(RefDay::FIRST)?;
+        Ok(RtSet { alloc, boundaries })
+    }
+
+    /// The days before `p`.
+    pub fn below(alloc: Global, p: ExtDay) -> Result<RtSet, NoMemory>
+        ensures { IfOk result (λ s. (d : ℤ) → IsRefDay d → holds_day s d ≡ int_lt d p) }
+    {
+        RtSet::between(alloc, RefDay::FIRST, p)
+    }
+
+    /// The days after `p`.
+    pub fn above(alloc: Global, p: ExtDay) -> Result<RtSet, NoMemory>
+        ensures { IfOk result (λ s. (d : ℤ) → IsRefDay d → holds_day s d ≡ int_lt p d) }
+    {
+        match RefDay::from_number(p.number() + 1) {
+            Some(next) => RtSet::between(alloc, next, ExtDay::POS),
+            None => Ok(RtSet::empty(alloc)),
+        }
+    }
+
+    // The days from `lo` on, up to the day before `hi`: none where `hi` is at most `lo`.
+    fn between(alloc: Global, lo: RefDay, hi: ExtDay) -> Result<RtSet, NoMemory>
+        ensures { IfOk result (λ s. (d : ℤ) → holds_day s d ≡ (not (int_lt d lo) && int_lt d hi)) }
+    {
+        if hi.number() <= lo.number() {
+            return Ok(RtSet::empty(alloc));
+        }
+        let mut boundaries = Vec::with_capacity(alloc, 2)?;
+        boundaries.push(lo)?;
+        if let Some(end) = hi.as_ref_day() {
+            boundaries.push(end)?;
+        }
+        Ok(RtSet { alloc, boundaries })
+    }
+
+    /// The days of a cut.
+    pub fn of_cut(alloc: Global, c: &Cut) -> Result<RtSet, NoMemory>
+        ensures { IfOk result (λ s. s ≡ ranges_of_cut c.now) }
+    {
+        let (days, count) = cut_boundaries(c);
+        let boundaries = Vec::from_slice(alloc, &days[..count])?;
+        Ok(RtSet { alloc, boundaries })
+    }
+
+    /// The same set, on its own memory.
+    pub fn copy(&self) -> Result<RtSet, NoMemory>
+        ensures { IfOk result (λ s. s ≡ self.now) }
+    {
+        let boundaries = Vec::from_slice(self.alloc, self.boundaries.as_slice())?;
+        Ok(RtSet {
+            alloc: self.alloc,
+            boundaries,
+        })
+    }
+
+    // The set that the operation makes of two sets, given by their boundaries.
+    fn combined(alloc: Global, op: Op, left: &[RefDay], right: &[RefDay]) -> Result<RtSet, NoMemory>
+        requires left_rises { Rises before_all left.now }
+        requires right_rises { Rises before_all right.now }
+        ensures { IfOk result (λ s. (d : ℤ) →
+            holds_day s d ≡ op_holds op (holds_day (ranges_of left.now) d) (holds_day (ranges_of right.now) d)) }
+    {
+        let boundaries = combine(alloc, op, left, right)?;
+        Ok(RtSet { alloc, boundaries })
+    }
+
+    /// The days that one of the two sets holds.
+    pub fn union(&self, other: &RtSet) -> Result<RtSet, NoMemory>
+        ensures { IfOk result (λ s. (d : ℤ) → holds_day s d ≡ (holds_day self.now d || holds_day other.now d)) }
+    {
+        let (left, right) = (self.boundaries.as_slice(), other.boundaries.as_slice());
+        RtSet::combined(self.alloc, Op::Union, left, right)
+    }
+
+    /// The days that both sets hold.
+    pub fn meet(&self, other: &RtSet) -> Result<RtSet, NoMemory>
+        ensures { IfOk result (λ s. (d : ℤ) → holds_day s d ≡ (holds_day self.now d && holds_day other.now d)) }
+    {
+        let (left, right) = (self.boundaries.as_slice(), other.boundaries.as_slice());
+        RtSet::combined(self.alloc, Op::Meet, left, right)
+    }
+
+    /// The days of this set that the other does not hold.
+    pub fn minus(&self, other: &RtSet) -> Result<RtSet, NoMemory>
+        ensures { IfOk result (λ s. (d : ℤ) → holds_day s d ≡ (holds_day self.now d && not (holds_day other.now d))) }
+    {
+        let (left, right) = (self.boundaries.as_slice(), other.boundaries.as_slice());
+        RtSet::combined(self.alloc, Op::Minus, left, right)
+    }
+
+    /// The reference days that the set does not hold.
+    pub fn complement(&self) -> Result<RtSet, NoMemory>
+        ensures { IfOk result (λ s. (d : ℤ) → IsRefDay d → holds_day s d ≡ not (holds_day self.now d)) }
+    {
+        let all = [RefDay::FIRST];
+        RtSet::combined(
+            self.alloc,
+            Op::Minus,
+            all.as_slice(),
+            self.boundaries.as_slice(),
+        )
+    }
+
+    /// Each set of days is in the one normal form.
+    pub fn normal(&self)
+        ensures { IsNormal self.now }
+    {
+        let _ = &self.boundaries;
+    }
+
+    /// Two sets that hold the same days are equal.
+    pub fn same_days(&self, other: &RtSet)
+        ensures { ((d : ℤ) → IsRefDay d → holds_day self.now d ≡ holds_day other.now d) → self.now ≡ other.now }
+    {
+        let _ = &self.boundaries;
+        let _ = &other.boundaries;
+    }
+
+    /// Whether the set holds no day.
+    pub fn is_empty(&self) -> bool
+        ensures days { IsTrue result ↔ ((d : ℤ) → holds_day self.now d ≡ false) }
+        ensures ranges { IsTrue result ↔ (self.now ≡ []) }
+    {
+        self.boundaries.is_empty()
+    }
+
+    /// Whether the two sets have no day in common. Takes no memory.
+    pub fn is_disjoint(&self, other: &RtSet) -> bool
+        ensures { IsTrue result ↔ ((d : ℤ) → (holds_day self.now d && holds_day other.now d) ≡ false) }
+    {
+        are_disjoint(self.boundaries.as_slice(), other.boundaries.as_slice())
+    }
+
+    /// How many ranges the set has.
+    pub fn range_count(&self) -> usize
+        ensures { result ≡ length self.now }
+    {
+        self.boundaries.len().div_ceil(2)
+    }
+
+    /// The range at that place.
+    pub fn range(&self, i: usize) -> DayRange
+        requires { i < length self.now }
+        ensures { slice_get self.now i ≡ Some result }
+    {
+        let boundaries = self.boundaries.as_slice();
+        let lo = boundaries[2 * i];
+        let hi = end_at(boundaries, 2 * i + 1);
+        DayRange { lo, hi }
+    }
+
+    /// Whether the set holds the day.
+    pub fn contains(&self, d: RefDay) -> bool
+        ensures { result ≡ holds_day self.now d }
+    {
+        let day = d.number();
+        let before = self.boundaries.as_slice().partition_point(
+            |b: &RefDay| -> bool
+                ensures { result ≡ int_le b.now day }
+            { b.number() <= day },
+        );
+        before % 2 == 1
+    }
+}
+
+// The boundary at that place, or infinity past the last one.
+fn end_at(boundaries: &[RefDay], i: usize) -> ExtDay
+    ensures { result ≡ slice_index_or boundaries.now i after_all }
+{
+    match boundaries.get(i) {
+        Some(day) => ExtDay::of(*day),
+        None => ExtDay::POS,
+    }
+}
+
+#[cfg(test)]
+mod tests {
+    use super::*;
+
+    const BEFORE: i32 = -4_371_587;
+
+    const NEW_YEAR: i32 = 18_262;
+
+    const THIRD: i32 = 18_264;
+
+    const FIFTH: i32 = 18_266;
+
+    const NEVER: i32 = 2_932_897;
+
+    // The days from the one number on, up to the day before the other.
+    fn days(alloc: Global, lo: i32, hi: i32) -> Result<RtSet, NoMemory> {
+        let low = ExtDay::from_number(lo).unwrap_or(ExtDay::NEG);
+        let high = ExtDay::from_number(hi).unwrap_or(ExtDay::NEG);
+        RtSet::below(alloc, high)?.minus(&RtSet::below(alloc, low)?)
+    }
+
+    // Whether the set has exactly these ranges.
+    fn has_ranges(set: &RtSet, wanted: &[(i32, i32)]) -> bool {
+        if set.range_count() != wanted.len() {
+            return false;
+        }
+        for (i, ends) in wanted.iter().enumerate() {
+            let range = set.range(i);
+            if range.lo.number() != ends.0 || range.hi.number() != ends.1 {
+                return false;
+            }
+        }
+        true
+    }
+
+    #[test]
+    fn sets_that_touch_unite_to_one_range(rt: HostRuntime) -> Result<(), NoMemory> {
+        let first = days(rt.alloc(), NEW_YEAR, FIFTH)?;
+        let second = days(rt.alloc(), FIFTH, NEVER)?;
+        let early = days(rt.alloc(), BEFORE, THIRD)?;
+        for (name, set, ranges) in [
+            (
+                "union",
+                &first.union(&second)?,
+                [(NEW_YEAR, NEVER)].as_slice(),
+            ),
+            ("meet", &first.meet(&second)?, [].as_slice()),
+            ("minus", &first.minus(&early)?, [(THIRD, FIFTH)].as_slice()),
+            (
+                "complement",
+                &first.complement()?,
+                [(BEFORE, NEW_YEAR), (FIFTH, NEVER)].as_slice(),
+            ),
+            ("copy", &second.copy()?, [(FIFTH, NEVER)].as_slice()),
+            (
+                "all",
+                &RtSet::all(rt.alloc())?,
+                [(BEFORE, NEVER)].as_slice(),
+            ),
+            (
+                "below -infinity",
+                &RtSet::below(rt.alloc(), ExtDay::NEG)?,
+                [].as_slice(),
+            ),
+            (
+                "above the last day",
+                &RtSet::above(rt.alloc(), ExtDay::of(RefDay::LAST))?,
+                [].as_slice(),
+            ),
+        ] {
+            assert!(rt; has_ranges(set, ranges), "{name}");
+        }
+        Ok(())
+    }
+
+    #[test]
+    fn a_set_holds_its_lower_ends_and_not_its_upper_ends(rt: HostRuntime) -> Result<(), NoMemory> {
+        let set = days(rt.alloc(), NEW_YEAR, FIFTH)?;
+        for (number, held) in [
+            (NEW_YEAR - 1, false),
+            (NEW_YEAR, true),
+            (FIFTH - 1, true),
+            (FIFTH, false),
+        ] {
+            let day = RefDay::from_number(number).unwrap_or(RefDay::LAST);
+            assert_eq!(rt; set.contains(day), held, "{number}");
+        }
+        assert!(rt; set.is_disjoint(&set.complement()?));
+        assert!(rt; !set.is_disjoint(&RtSet::all(rt.alloc())?));
+        assert!(rt; set.minus(&set)?.is_empty());
+        Ok(())
+    }
+}

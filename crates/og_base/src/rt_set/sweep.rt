@@ -1,0 +1,146 @@
+//! One pass over the boundaries of two sets.
+ghost use Rattle.std.specs.Prelude.{◌≡◌, ◌↔◌, ◌&&◌, ℤ, IsTrue, false, Bool, [], IfOk, IfNone, IfSome, OnOk};
+ghost use Rattle.og_base.specs.Calendar.{before_all};
+ghost use Rattle.og_base.specs.Ranges.{holds_day};
+ghost use Rattle.og_base.specs.Boundaries.{ranges_of, Rises, inside_from, rest_after, inside_after, turned, IsNext};
+ghost use Rattle.og_base.specs.SetOps.{op_holds};
+
+use crate::day::RefDay;
+use crate::memory::NoMemory;
+use std::alloc::Global;
+
+/// An operation on two sets.
+#[derive(Clone, Copy)]
+pub enum Op {
+    Union,
+    Meet,
+    Minus,
+}
+
+impl Op {
+    // Whether the result holds a day, from whether the two sets hold it.
+    fn holds(self, left: bool, right: bool) -> bool
+        ensures { result ≡ op_holds self left right }
+    {
+        match self {
+            Op::Union => left || right,
+            Op::Meet => left && right,
+            Op::Minus => left && !right,
+        }
+    }
+}
+
+// The boundaries of a set that are left, and whether the days before the first of them are inside.
+#[derive(Clone, Copy)]
+struct Side<'a> {
+    rest: &'a [RefDay],
+    inside: bool,
+}
+
+impl<'a> Side<'a> {
+    // A set, before its first boundary.
+    fn of(boundaries: &'a [RefDay]) -> Side<'a>
+        ensures rest { result.rest.now ≡ boundaries.now }
+        ensures inside { result.inside ≡ false }
+    {
+        Side {
+            rest: boundaries,
+            inside: false,
+        }
+    }
+
+    // The side from a day on, which is at most its first boundary.
+    fn pass(self, day: RefDay) -> Side<'a>
+        ensures rest { result.rest.now ≡ rest_after day self.entry.rest.now }
+        ensures inside { result.inside ≡ inside_after day self.entry.inside self.entry.rest.now }
+    {
+        let Some((first, rest)) = self.rest.split_first() else {
+            return self;
+        };
+        if *first != day {
+            return self;
+        }
+        Side {
+            rest,
+            inside: !self.inside,
+        }
+    }
+}
+
+/// The boundaries of what the operation makes of two sets, by one pass over the boundaries of both.
+pub fn combine(
+    alloc: Global,
+    op: Op,
+    left: &[RefDay],
+    right: &[RefDay],
+) -> Result<Vec<RefDay>, NoMemory>
+    requires left_rises { Rises before_all left.now }
+    requires right_rises { Rises before_all right.now }
+    ensures rises { IfOk result (λ v. Rises before_all v.items) }
+    ensures holds { IfOk result (λ v. (d : ℤ) →
+        inside_from false v.items d ≡ op_holds op (inside_from false left.now d) (inside_from false right.now d)) }
+{
+    let mut left = Side::of(left);
+    let mut right = Side::of(right);
+    let mut inside = false;
+    let mut boundaries = Vec::with_capacity(
+        alloc,
+        left.rest.len().saturating_add(right.rest.len()),
+    )?;
+    'pass: while let Some(day) = next_of(left.rest, right.rest) {
+        left = left.pass(day);
+        right = right.pass(day);
+        let now = op.holds(left.inside, right.inside);
+        turn(&mut boundaries, inside, now, day)?;
+        inside = now;
+    }
+    boundaries.shrink_to_fit();
+    Ok(boundaries)
+}
+
+/// Whether two sets have no day in common, by one pass over the boundaries of both.
+pub fn are_disjoint(left: &[RefDay], right: &[RefDay]) -> bool
+    requires left_rises { Rises before_all left.now }
+    requires right_rises { Rises before_all right.now }
+    ensures { IsTrue result ↔ ((d : ℤ) →
+        (holds_day (ranges_of left.now) d && holds_day (ranges_of right.now) d) ≡ false) }
+{
+    let mut left = Side::of(left);
+    let mut right = Side::of(right);
+    'pass: while let Some(day) = next_of(left.rest, right.rest) {
+        left = left.pass(day);
+        right = right.pass(day);
+        if Op::Meet.holds(left.inside, right.inside) {
+            return false;
+        }
+    }
+    true
+}
+
+// The least boundary that is left, or none at the end of both.
+fn next_of(left: &[RefDay], right: &[RefDay]) -> Option<RefDay>
+    ensures ended { IfNone result ((left.now ≡ []) × (right.now ≡ [])) }
+    ensures next { IfSome result (λ day. IsNext day left.now right.now) }
+{
+    let Some(first) = left.first() else {
+        return right.first().copied();
+    };
+    let Some(other) = right.first() else {
+        return Some(*first);
+    };
+    if *other < *first {
+        Some(*other)
+    } else {
+        Some(*first)
+    }
+}
+
+// Adds the day as a boundary, where what is inside changes at it.
+fn turn(boundaries: &mut Vec<RefDay>, was: bool, now: bool, day: RefDay) -> Result<(), NoMemory>
+    ensures { OnOk result (boundaries.new.items ≡ turned was now day boundaries.old.items) }
+{
+    if was != now {
+        boundaries.push(day)?;
+    }
+    Ok(())
+}
