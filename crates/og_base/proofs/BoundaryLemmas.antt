@@ -81,12 +81,12 @@ Rises-boundaries_of low (r ∷ rs) n b =
     begin (q ∷ qs) k = omega (arith, ints, n.0.some)
 
 -- they are reference days
-pub Rises-normal : (rs : List Range) → IsNormal rs → Rises before_all (boundaries_of rs)
-Rises-normal [] n = tt
-Rises-normal (r ∷ rs) n = Rises-boundaries_of before_all (r ∷ rs) n (omega (arith, ints, n.0.lo_in))
+pub Rises-normal : (bs : List ℤ) (rs : List Range) → bs ≡ boundaries_of rs → IsNormal rs → Rises before_all bs
+Rises-normal bs [] e n = rw e tt
+Rises-normal bs (r ∷ rs) e n = rw e (Rises-boundaries_of before_all (r ∷ rs) n (omega (arith, ints, n.0.lo_in)))
 
 -- ranges in normal form are the ranges between their boundaries
-pub ranges_of-boundaries_of : (rs : List Range) → IsNormal rs → ranges_of (boundaries_of rs) ≡ rs
+ranges_of-boundaries_of : (rs : List Range) → IsNormal rs → ranges_of (boundaries_of rs) ≡ rs
 ranges_of-boundaries_of [] n = refl
 ranges_of-boundaries_of (r ∷ rs) n =
     by_day r.hi after_all
@@ -96,6 +96,9 @@ ranges_of-boundaries_of (r ∷ rs) n =
     last : (qs : List Range) → BeginAfter r.hi qs → IsNormal qs → after_all ≤ℤ r.hi → ranges_of (r.lo ∷ boundaries_of qs) ≡ r ∷ qs
     last [] k m h = let e : after_all ≡ r.hi = omega (arith, ints, n.0.hi_in) in ap (λ x. let q : Range = record { lo = r.lo; hi = x } in q ∷ []) e
     last (q ∷ qs) k m h = absurd (omega (arith, ints, m.0.lo_in))
+
+pub ranges_of-normal : (bs : List ℤ) (rs : List Range) → bs ≡ boundaries_of rs → IsNormal rs → ranges_of bs ≡ rs
+ranges_of-normal bs rs e n = ap ranges_of e ∙ ranges_of-boundaries_of rs n
 
 -- at a boundary what is inside changes
 pub inside_from-at : (s : Bool) (b : ℤ) (bs : List ℤ) → Rises b bs → inside_from s (b ∷ bs) b ≡ not s

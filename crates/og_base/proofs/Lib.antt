@@ -7,5 +7,6 @@ pub mod RangeLemmas
 pub mod ReadTexts
 pub mod SetLemmas
 pub mod SetOpLemmas
+pub mod SideLemmas
 pub mod SweepLemmas
 pub mod TextForms

@@ -9,6 +9,20 @@ use Rattle.og_base.specs.declared.rt_set.sweep.Op.{Op}
 use Rattle.og_base.specs.declared.rt_set.sweep.Op.TheVariants.{Union, Meet, Minus}
 use Rattle.og_base.proofs.BoundaryLemmas.{int_lt-yes, holds_day-ranges_of, same_boundaries}
 
+-- an operation on a list of two
+abbrev pub of_two : (Bool → Bool → Bool) → List Bool → Bool
+of_two op [] = false
+of_two op (a ∷ []) = false
+of_two op (a ∷ (b ∷ cs)) = op a b
+
+-- all of a list of four
+abbrev pub of_four : List Bool → Bool
+of_four [] = false
+of_four (a ∷ []) = false
+of_four (a ∷ (b ∷ [])) = false
+of_four (a ∷ (b ∷ (c ∷ []))) = false
+of_four (a ∷ (b ∷ (c ∷ (d ∷ es)))) = a && b && c && d
+
 -- no operation holds a day that neither side holds
 pub op_holds-neither : (op : Op) → op_holds op false false ≡ false
 op_holds-neither Union = refl
@@ -70,3 +84,24 @@ common xs ys d up vp l both =
     ap₂ (λ a b. a && b) (holds_day-ranges_of before_all xs up d) (holds_day-ranges_of before_all ys vp d)
     ∙ sym (op_holds-and Meet (inside_from false xs d) (inside_from false ys d) (int_lt d after_all))
     ∙ ap (λ b. b && int_lt d after_all) both ∙ e
+
+-- what is said of four days at once, on the days before infinity
+four-and : (a b c d x : Bool) → ((a && b && c && d) && x) ≡ ((a && x) && (b && x) && (c && x) && (d && x))
+four-and false b c d x = refl
+four-and true false c d x = grind arith
+four-and true true false d x = grind arith
+four-and true true true d x = grind arith
+
+-- what holds of the boundaries of four sets holds of their ranges
+pub holds_day-four : (ws xs ys zs out : List ℤ) → Rises before_all ws → Rises before_all xs → Rises before_all ys → Rises before_all zs → Rises before_all out
+    → ((d : ℤ) → inside_from false out d ≡ (inside_from false ws d && inside_from false xs d && inside_from false ys d && inside_from false zs d))
+    → (d : ℤ) → holds_day (ranges_of out) d ≡ (holds_day (ranges_of ws) d && holds_day (ranges_of xs) d && holds_day (ranges_of ys) d && holds_day (ranges_of zs) d)
+holds_day-four ws xs ys zs out w x y z o same d =
+    let e = holds_day-ranges_of before_all ws w d in
+    let f = holds_day-ranges_of before_all xs x d in
+    let g = holds_day-ranges_of before_all ys y d in
+    let h = holds_day-ranges_of before_all zs z d in
+    holds_day-ranges_of before_all out o d
+    ∙ ap (λ b. b && int_lt d after_all) (same d)
+    ∙ four-and (inside_from false ws d) (inside_from false xs d) (inside_from false ys d) (inside_from false zs d) (int_lt d after_all)
+    ∙ rw (e, f, g, h) refl

@@ -1,77 +1,10 @@
--- One pass over the boundaries of sets: what each side still says, and what the boundaries that were written say.
-use Rattle.std.proofs.Common.{◌≡◌, ◌++◌, ◌+◌, ◌<◌, ◌≤◌, ◌<ℤ◌, ◌≤ℤ◌, ℤ, Bool, true, false, not, List, [], ◌∷◌, length, refl, sym, ap, ap₂, ◌∙◌, subst, ⊎_elim, true≢false, arith}
-use Rattle.std.specs.Ordering.{int_eq}
-use Rattle.std.proofs.lemmas.Bool.{cond_both}
-use Rattle.std.proofs.lemmas.Bool.Decides.{Decides-int_eq}
+-- What a pass over the boundaries of sets writes, and what the boundaries that it wrote say.
+use Rattle.std.proofs.Common.{◌≡◌, ◌++◌, ◌<ℤ◌, ◌≤ℤ◌, ℤ, Bool, true, false, not, List, [], ◌∷◌, refl, sym, ap, ◌∙◌, arith}
 use Rattle.std.proofs.lemmas.Int.{ints}
 use Rattle.og_base.specs.Calendar.{after_all, before_all}
-use Rattle.og_base.specs.Boundaries.{Rises, inside_from, rest_after, inside_after, turned, AtMostFirst, Begins, IsNext}
-use Rattle.og_base.proofs.BoundaryLemmas.{by_day, int_lt-no, inside_from-before, inside_from-past, inside_from-low}
-
--- from the day `low` on, the side says what `f` says
-pub record IsSide (f : ℤ → Bool) (low : ℤ) (s : Bool) (bs : List ℤ) : Type 0 where
-  pub rises : Rises low bs
-  pub from : (d : ℤ) → low ≤ℤ d → f d ≡ inside_from s bs d
-
--- two days are the same, or they are not
-by_same_day : {P : Type 0} (a b : ℤ) → (a ≡ b → int_eq a b ≡ true → P) → ((a ≡ b → ⊥) → int_eq a b ≡ false → P) → P
-by_same_day {P} a b f g = at (int_eq a b) refl
-  where
-    at : (t : Bool) → int_eq a b ≡ t → P
-    at true e = f ((Decides-int_eq a b).0 e) e
-    at false e = g (λ h. true≢false (sym ((Decides-int_eq a b).1 h) ∙ e)) e
-
--- what is left after a day rises from that day
-Rises-rest_after : (low day : ℤ) (bs : List ℤ) → Rises low bs → AtMostFirst day bs → Rises day (rest_after day bs)
-Rises-rest_after low day [] up m = tt
-Rises-rest_after low day (b ∷ bs) up m =
-    by_same_day b day
-    (λ same e. rw e (subst (λ z. Rises z bs) same up.2))
-    (λ other e. rw e (omega (arith, ints), up.1, up.2))
-
--- from that day on it says the same
-inside_from-rest_after : (s : Bool) (low day : ℤ) (bs : List ℤ) (d : ℤ) → Rises low bs → AtMostFirst day bs → day ≤ℤ d → inside_from s bs d ≡ inside_from (inside_after day s bs) (rest_after day bs) d
-inside_from-rest_after s low day [] d up m h = refl
-inside_from-rest_after s low day (b ∷ bs) d up m h =
-    by_same_day b day
-    (λ same e. rw e (inside_from-past s b bs d (omega (arith, ints))))
-    (λ other e. rw e refl)
-
--- before that day nothing changes
-inside_from-until : (s : Bool) (day : ℤ) (bs : List ℤ) (d : ℤ) → AtMostFirst day bs → d <ℤ day → inside_from s bs d ≡ s
-inside_from-until s day [] d m h = refl
-inside_from-until s day (b ∷ bs) d m h = inside_from-before s b bs d (omega (arith, ints))
-
-module _ {f : ℤ → Bool} {low : ℤ} {s : Bool} {bs : List ℤ} (side : IsSide f low s bs) (day : ℤ) (m : AtMostFirst day bs) where
-  -- a side after a day
-  pub IsSide-after : low ≤ℤ day → IsSide f day (inside_after day s bs) (rest_after day bs)
-  IsSide-after l = record {
-    rises = Rises-rest_after low day bs side.rises m;
-    from = λ d h. side.from d (omega (arith, ints)) ∙ inside_from-rest_after s low day bs d side.rises m h;
-  }
-
-  -- a side before its first boundary
-  pub IsSide-until : (d : ℤ) → low ≤ℤ d → d <ℤ day → f d ≡ s
-  IsSide-until d l h = side.from d l ∙ inside_from-until s day bs d m h
-
--- a set's boundaries, at the start of a pass
-pub IsSide-start : (bs : List ℤ) → Rises before_all bs → IsSide (inside_from false bs) before_all false bs
-IsSide-start bs up = record { rises = up; from = λ d h. refl }
-
--- a boundary that begins a side lies after the day so far
-pub begins_after : (low day : ℤ) (bs : List ℤ) → Rises low bs → Begins day bs → (low <ℤ day) × (day <ℤ after_all)
-begins_after low day [] up e = elim e [ ]
-begins_after low day (b ∷ bs) up e = (omega (arith, ints), omega (arith, ints))
-
--- no more boundaries are left than before
-pub length-rest_after : (day : ℤ) (bs : List ℤ) → length (rest_after day bs) ≤ length bs
-length-rest_after day [] = omega arith
-length-rest_after day (b ∷ bs) = cond_both (int_eq b day) bs (b ∷ bs) (λ l. length l ≤ length (b ∷ bs)) (λ _. omega arith) (λ _. omega arith)
-
--- one fewer, where the day begins them
-pub length-rest_after-begins : (day : ℤ) (bs : List ℤ) → Begins day bs → length (rest_after day bs) < length bs
-length-rest_after-begins day [] same = elim same [ ]
-length-rest_after-begins day (b ∷ bs) same = let e = (Decides-int_eq b day).1 same in rw e (omega arith)
+use Rattle.og_base.specs.Boundaries.{Rises, inside_from, turned, EachEnded, IsNext}
+use Rattle.og_base.proofs.BoundaryLemmas.{by_day, int_lt-no, inside_from-before, inside_from-past}
+use Rattle.og_base.proofs.SideLemmas.{Side, AreSides, EachRises, rests, insides, said, sides_after, sides_of, said-sides_after, AreSides-after, AreSides-sides_of, said-until, said-at, said-end, said-low, next_after}
 
 -- each boundary is before the day
 abbrev pub Below : List ℤ → ℤ → Type 0
@@ -157,66 +90,51 @@ IsSwept-turned f low false false out day swept l r same = IsSwept-keep swept day
 pub IsSwept-end : (f : ℤ → Bool) (low : ℤ) (s : Bool) (out : List ℤ) → IsSwept f low s out → ((d : ℤ) → low ≤ℤ d → f d ≡ s) → (d : ℤ) → inside_from false out d ≡ f d
 IsSwept-end f low s out swept same d = by_day d low (λ k _. swept.before d k) (λ k _. swept.after d k ∙ sym (same d k))
 
--- two sides of a pass that has come to the day `low`, and what was written so far
-pub record IsPass (op : Bool → Bool → Bool) (left right : ℤ → Bool) (s : Bool) (bs : List ℤ) (t : Bool) (cs : List ℤ) (now : Bool) (out : List ℤ) : Type 0 where
+-- what is said of the same days is said
+IsSwept-same : (f g : ℤ → Bool) (low : ℤ) (s : Bool) (out : List ℤ) → ((d : ℤ) → f d ≡ g d) → IsSwept f low s out → IsSwept g low s out
+IsSwept-same f g low s out same swept = record {
+  low_in = swept.low_in;
+  rises = swept.rises;
+  below = swept.below;
+  before = λ d h. swept.before d h ∙ same d;
+  after = swept.after;
+}
+
+-- the sides of a pass that has come to the day `low`, and what was written so far
+pub record IsPass (op : List Bool → Bool) (xs : List Side) (now : Bool) (out : List ℤ) : Type 0 where
   pub low : ℤ
-  pub left_side : IsSide left low s bs
-  pub right_side : IsSide right low t cs
-  pub swept : IsSwept (λ d. op (left d) (right d)) low now out
-  pub state : now ≡ op s t
+  pub sides : AreSides low xs
+  pub swept : IsSwept (λ d. op (said xs d)) low now out
+  pub state : now ≡ op (insides xs)
 
 -- a pass at its start
-pub IsPass-start : (op : Bool → Bool → Bool) (bs cs : List ℤ) → op false false ≡ false → Rises before_all bs → Rises before_all cs → IsPass op (inside_from false bs) (inside_from false cs) false bs false cs false []
-IsPass-start op bs cs none up vp = record {
+pub IsPass-start : (op : List Bool → Bool) (bss : List (List ℤ)) → op (insides (sides_of bss)) ≡ false → EachRises bss → IsPass op (sides_of bss) false []
+IsPass-start op bss none up = record {
   low = before_all;
-  left_side = IsSide-start bs up;
-  right_side = IsSide-start cs vp;
-  swept = IsSwept-start (λ d. op (inside_from false bs d) (inside_from false cs d)) (λ d h.
-      ap₂ op (inside_from-low false before_all bs d up (omega (arith, ints))) (inside_from-low false before_all cs d vp (omega (arith, ints))) ∙ none);
+  sides = AreSides-sides_of bss up;
+  swept = IsSwept-start (λ d. op (said (sides_of bss) d)) (λ d h. ap op (said-low bss d up h) ∙ none);
   state = sym none;
 }
 
-module _ {op : Bool → Bool → Bool} {left right : ℤ → Bool} {s t now : Bool} {bs cs out : List ℤ} (pass : IsPass op left right s bs t cs now out) where
-  -- the next boundary lies after the day so far
-  next_after : (day : ℤ) → IsNext day bs cs → (pass.low <ℤ day) × (day <ℤ after_all)
-  next_after day next = ⊎_elim (begins_after pass.low day bs pass.left_side.rises) (begins_after pass.low day cs pass.right_side.rises) next.reached
-
+module _ {op : List Bool → Bool} {xs : List Side} {now : Bool} {out : List ℤ} (pass : IsPass op xs now out) where
   -- a pass after the next boundary
-  pub IsPass-next : (day : ℤ) → IsNext day bs cs → (later : Bool) → later ≡ op (inside_after day s bs) (inside_after day t cs) → IsPass op left right (inside_after day s bs) (rest_after day bs) (inside_after day t cs) (rest_after day cs) later (turned now later day out)
+  pub IsPass-next : (day : ℤ) → IsNext day (rests xs) → (later : Bool) → later ≡ op (insides (sides_after day xs)) → IsPass op (sides_after day xs) later (turned now later day out)
   IsPass-next day next later e =
-      let l = next_after day next in
+      let l = next_after pass.low day xs pass.sides next.reached in
       record {
         low = day;
-        left_side = IsSide-after pass.left_side day next.left (omega (arith, ints, l.0));
-        right_side = IsSide-after pass.right_side day next.right (omega (arith, ints, l.0));
-        swept = IsSwept-turned (λ d. op (left d) (right d)) pass.low now later out day pass.swept l.0 l.1 (λ d k h.
-            ap₂ op (IsSide-until pass.left_side day next.left d k h) (IsSide-until pass.right_side day next.right d k h) ∙ sym pass.state);
+        sides = AreSides-after pass.low day xs pass.sides next.at_most (omega (arith, ints, l.0));
+        swept = IsSwept-same (λ d. op (said xs d)) (λ d. op (said (sides_after day xs) d)) day later (turned now later day out) (λ d. ap op (sym (said-sides_after day xs d)))
+            (IsSwept-turned (λ d. op (said xs d)) pass.low now later out day pass.swept l.0 l.1 (λ d k h. ap op (said-until pass.low day xs d pass.sides next.at_most k h) ∙ sym pass.state));
         state = e;
       }
 
-  -- at the next boundary the sets say what the sides say after it
-  pub IsPass-at : (day : ℤ) → IsNext day bs cs → (left day ≡ inside_after day s bs) × (right day ≡ inside_after day t cs) × (day <ℤ after_all)
+  -- at the next boundary the sets say what the sides have inside after it
+  pub IsPass-at : (day : ℤ) → IsNext day (rests xs) → (said xs day ≡ insides (sides_after day xs)) × (day <ℤ after_all)
   IsPass-at day next =
-      let l = next_after day next in
-      let same : day ≤ℤ day = omega (arith, ints) in
-      let one = IsSide-after pass.left_side day next.left (omega (arith, ints, l.0)) in
-      let two = IsSide-after pass.right_side day next.right (omega (arith, ints, l.0)) in (
-        one.from day same ∙ inside_from-low (inside_after day s bs) day (rest_after day bs) day one.rises same,
-        two.from day same ∙ inside_from-low (inside_after day t cs) day (rest_after day cs) day two.rises same,
-        l.1,
-      )
+      let l = next_after pass.low day xs pass.sides next.reached in
+      (sym (said-sides_after day xs day) ∙ said-at day (sides_after day xs) (AreSides-after pass.low day xs pass.sides next.at_most (omega (arith, ints, l.0))), l.1)
 
   -- a pass at its end
-  pub IsPass-end : bs ≡ [] → cs ≡ [] → (d : ℤ) → inside_from false out d ≡ op (left d) (right d)
-  IsPass-end e f = IsSwept-end (λ d. op (left d) (right d)) pass.low now out pass.swept (λ d k.
-      ap₂ op (pass.left_side.from d k ∙ ap (λ l. inside_from s l d) e) (pass.right_side.from d k ∙ ap (λ l. inside_from t l d) f) ∙ sym pass.state)
-
--- fewer boundaries are left
-pub fewer_left : (day : ℤ) (bs cs : List ℤ) → IsNext day bs cs → length (rest_after day bs) + length (rest_after day cs) < length bs + length cs
-fewer_left day bs cs next =
-    let b = length-rest_after day bs in
-    let c = length-rest_after day cs in
-    ⊎_elim
-    (λ h. let k = length-rest_after-begins day bs h in omega (arith, k, c))
-    (λ h. let k = length-rest_after-begins day cs h in omega (arith, k, b))
-    next.reached
+  pub IsPass-end : EachEnded (rests xs) → (d : ℤ) → inside_from false out d ≡ op (said xs d)
+  IsPass-end ended = IsSwept-end (λ d. op (said xs d)) pass.low now out pass.swept (λ d k. ap op (said-end pass.low xs d pass.sides ended k) ∙ sym pass.state)

@@ -52,8 +52,22 @@ abbrev pub Begins : ℤ → List ℤ → Type 0
 Begins day [] = ⊥
 Begins day (b ∷ bs) = b ≡ day
 
--- the day is the least boundary of the two lists
-pub record IsNext (day : ℤ) (bs cs : List ℤ) : Type 0 where
-  pub left : AtMostFirst day bs
-  pub right : AtMostFirst day cs
-  pub reached : Begins day bs ⊎ Begins day cs
+-- it is at most the first boundary of each list
+abbrev pub EachAtMost : ℤ → List (List ℤ) → Type 0
+EachAtMost day [] = ⊤
+EachAtMost day (bs ∷ bss) = AtMostFirst day bs × EachAtMost day bss
+
+-- it is the first boundary of one of the lists
+abbrev pub OneBegins : ℤ → List (List ℤ) → Type 0
+OneBegins day [] = ⊥
+OneBegins day (bs ∷ bss) = Begins day bs ⊎ OneBegins day bss
+
+-- the day is the least boundary of the lists
+pub record IsNext (day : ℤ) (bss : List (List ℤ)) : Type 0 where
+  pub at_most : EachAtMost day bss
+  pub reached : OneBegins day bss
+
+-- no list has a boundary
+abbrev pub EachEnded : List (List ℤ) → Type 0
+EachEnded [] = ⊤
+EachEnded (bs ∷ bss) = (bs ≡ []) × EachEnded bss

@@ -19,7 +19,7 @@ pub use day::{ExtDay, RefDay};
 pub use memory::NoMemory;
 pub use range::{Cut, DayRange, FixedPeriod};
 pub use row::{DayCond, Glue, Instant, OngoingRow, RowMap};
-pub use rt_set::RtSet;
+pub use rt_set::{RtSet, meet_cuts};
 pub use set::rising;
 pub use text::{NotADay, one_text_a_day, read_day, read_ref_day, write_day};
 pub use text_laws::{form_of_day_texts, old_day_texts};

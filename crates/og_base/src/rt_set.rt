@@ -14,7 +14,7 @@ use crate::range::{Cut, DayRange};
 use cuts::cut_boundaries;
 use std::alloc::Global;
 use std::marker::Model;
-use sweep::{Op, are_disjoint, combine};
+use sweep::{Op, are_disjoint, combine, meet_four};
 
 /// A set of reference days, seen as its ranges: they rise and do not touch.
 #[derive(Drop)]
@@ -216,6 +216,31 @@ impl RtSet {
         );
         before % 2 == 1
     }
+}
+
+/// The set of the days that all four cuts hold. It takes its memory in one growth, before its first boundary.
+pub fn meet_cuts(
+    alloc: Global,
+    first: Cut,
+    second: Cut,
+    third: Cut,
+    fourth: Cut,
+) -> Result<RtSet, NoMemory>
+    ensures { IfOk result (λ s. (d : ℤ) → holds_day s d ≡ (holds_day (ranges_of_cut first) d
+        && holds_day (ranges_of_cut second) d && holds_day (ranges_of_cut third) d && holds_day (ranges_of_cut fourth) d)) }
+{
+    let (a, a_count) = cut_boundaries(&first);
+    let (b, b_count) = cut_boundaries(&second);
+    let (c, c_count) = cut_boundaries(&third);
+    let (d, d_count) = cut_boundaries(&fourth);
+    let boundaries = meet_four(
+        alloc,
+        &a[..a_count],
+        &b[..b_count],
+        &c[..c_count],
+        &d[..d_count],
+    )?;
+    Ok(RtSet { alloc, boundaries })
 }
 
 // The boundary at that place, or infinity past the last one.

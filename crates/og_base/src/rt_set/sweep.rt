@@ -1,13 +1,16 @@
-//! One pass over the boundaries of two sets.
-ghost use Rattle.std.specs.Prelude.{◌≡◌, ◌↔◌, ◌&&◌, ℤ, IsTrue, false, Bool, [], IfOk, IfNone, IfSome, OnOk};
+//! One pass over the boundaries of sets.
+ghost use Rattle.std.specs.Prelude.{◌≡◌, ◌↔◌, ◌&&◌, ℤ, IsTrue, false, Bool, [], ◌∷◌, IfOk, IfNone, IfSome, OnOk};
 ghost use Rattle.og_base.specs.Calendar.{before_all};
 ghost use Rattle.og_base.specs.Ranges.{holds_day};
-ghost use Rattle.og_base.specs.Boundaries.{ranges_of, Rises, inside_from, rest_after, inside_after, turned, IsNext};
+ghost use Rattle.og_base.specs.Boundaries.{ranges_of, Rises, inside_from, rest_after, inside_after, turned, IsNext, EachEnded};
 ghost use Rattle.og_base.specs.SetOps.{op_holds};
 
 use crate::day::RefDay;
 use crate::memory::NoMemory;
 use std::alloc::Global;
+
+// How many boundaries four cuts have at most.
+const FOUR_CUTS: usize = 16;
 
 /// An operation on two sets.
 #[derive(Clone, Copy)]
@@ -117,10 +120,53 @@ pub fn are_disjoint(left: &[RefDay], right: &[RefDay]) -> bool
     true
 }
 
+/// The boundaries of the days that all four sets hold, by one pass over the boundaries of all. For sets with the
+/// boundaries of cuts it takes its memory in one growth, before its first boundary.
+pub fn meet_four(
+    alloc: Global,
+    first: &[RefDay],
+    second: &[RefDay],
+    third: &[RefDay],
+    fourth: &[RefDay],
+) -> Result<Vec<RefDay>, NoMemory>
+    requires first_rises { Rises before_all first.now }
+    requires second_rises { Rises before_all second.now }
+    requires third_rises { Rises before_all third.now }
+    requires fourth_rises { Rises before_all fourth.now }
+    ensures rises { IfOk result (λ v. Rises before_all v.items) }
+    ensures holds { IfOk result (λ v. (d : ℤ) → inside_from false v.items d
+        ≡ (inside_from false first.now d && inside_from false second.now d && inside_from false third.now d && inside_from false fourth.now d)) }
+{
+    let mut a = Side::of(first);
+    let mut b = Side::of(second);
+    let mut c = Side::of(third);
+    let mut d = Side::of(fourth);
+    let mut inside = false;
+    let mut boundaries = Vec::with_capacity(alloc, FOUR_CUTS)?;
+    'pass: while let Some(day) = next_of_four(a.rest, b.rest, c.rest, d.rest) {
+        a = a.pass(day);
+        b = b.pass(day);
+        c = c.pass(day);
+        d = d.pass(day);
+        let now = all_four(a.inside, b.inside, c.inside, d.inside);
+        turn(&mut boundaries, inside, now, day)?;
+        inside = now;
+    }
+    boundaries.shrink_to_fit();
+    Ok(boundaries)
+}
+
+// Whether all four are so.
+fn all_four(first: bool, second: bool, third: bool, fourth: bool) -> bool
+    ensures { result ≡ (first && second && third && fourth) }
+{
+    first && second && third && fourth
+}
+
 // The least boundary that is left, or none at the end of both.
 fn next_of(left: &[RefDay], right: &[RefDay]) -> Option<RefDay>
-    ensures ended { IfNone result ((left.now ≡ []) × (right.now ≡ [])) }
-    ensures next { IfSome result (λ day. IsNext day left.now right.now) }
+    ensures ended { IfNone result (EachEnded (left.now ∷ right.now ∷ [])) }
+    ensures next { IfSome result (λ day. IsNext day (left.now ∷ right.now ∷ [])) }
 {
     let Some(first) = left.first() else {
         return right.first().copied();
@@ -133,6 +179,25 @@ fn next_of(left: &[RefDay], right: &[RefDay]) -> Option<RefDay>
     } else {
         Some(*first)
     }
+}
+
+// The same of four sets.
+fn next_of_four(
+    first: &[RefDay],
+    second: &[RefDay],
+    third: &[RefDay],
+    fourth: &[RefDay],
+) -> Option<RefDay>
+    ensures ended { IfNone result (EachEnded (first.now ∷ second.now ∷ third.now ∷ fourth.now ∷ [])) }
+    ensures next { IfSome result (λ day. IsNext day (first.now ∷ second.now ∷ third.now ∷ fourth.now ∷ [])) }
+{
+    let Some(one) = next_of(first, second) else {
+        return next_of(third, fourth);
+    };
+    let Some(other) = next_of(third, fourth) else {
+        return Some(one);
+    };
+    if other < one { Some(other) } else { Some(one) }
 }
 
 // Adds the day as a boundary, where what is inside changes at it.
