@@ -1,0 +1,4 @@
+use Rattle.og_bench.proofs.+spaced.Given as goal
+
+abbrev pub decreases-spaced : goal.decreases-spaced
+decreases-spaced l = l.count
