@@ -1,4 +1,5 @@
-//! Whole runs, from the words and the bytes in to the bytes and the status out.
+//! Whole runs, from the words and the bytes in to the bytes and the status out; and the traits of
+//! rows at small types.
 #![tactic(auto)]
 
 #[cfg(test)]
@@ -11,5 +12,6 @@ mod limits;
 mod memory;
 #[cfg(test)]
 mod prints;
+pub mod rows;
 #[cfg(test)]
 mod runs;
