@@ -6,6 +6,7 @@ pub mod OldTexts
 pub mod RangeLemmas
 pub mod ReadTexts
 pub mod SetLemmas
+pub mod SetTexts
 pub mod SetOpLemmas
 pub mod SideLemmas
 pub mod SweepLemmas

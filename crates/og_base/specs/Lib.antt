@@ -6,4 +6,5 @@ pub mod SetOps
 pub mod Told
 pub mod Ranges
 pub mod TextForms
+pub mod SetTexts
 pub mod OldTexts

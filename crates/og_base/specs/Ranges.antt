@@ -1,6 +1,6 @@
 -- Sets of reference days as rising ranges.
 use Rattle.std.specs.Prelude.{◌≡◌, ◌<ℤ◌, ℤ, Bool, false, not, ◌&&◌, ◌||◌, int_lt, List, [], ◌∷◌, Option, Some, None, ⊤}
-use Rattle.og_base.specs.Calendar.{IsRefDay, IsExtDay, after_all}
+use Rattle.og_base.specs.Calendar.{IsRefDay, IsExtDay}
 
 -- the days from lo on, up to the day before hi
 pub record Range : Type 0 where

@@ -51,9 +51,8 @@ impl RtSet {
     pub fn all(alloc: Global) -> Result<RtSet, NoMemory>
         ensures { IfOk result (λ s. s ≡ record { lo = first_day; hi = after_all } ∷ []) }
     {
-        let mut boundaries = Vec::with_capacity(alloc, 1)?;
-        boundaries.push(RefDay::FIRST)?;
-        Ok(RtSet { alloc, boundaries })
+        let all = [RefDay::FIRST];
+        RtSet::of_slice(alloc, all.as_slice())
     }
 
     /// The days before `p`.
@@ -80,12 +79,21 @@ impl RtSet {
         if hi.number() <= lo.number() {
             return Ok(RtSet::empty(alloc));
         }
-        let mut boundaries = Vec::with_capacity(alloc, 2)?;
-        boundaries.push(lo)?;
-        if let Some(end) = hi.as_ref_day() {
-            boundaries.push(end)?;
-        }
-        Ok(RtSet { alloc, boundaries })
+        let Some(end) = hi.as_ref_day() else {
+            let from = [lo];
+            return RtSet::of_slice(alloc, from.as_slice());
+        };
+        let ends = [lo, end];
+        RtSet::of_slice(alloc, ends.as_slice())
+    }
+
+    // The set with those boundaries, on its own memory.
+    fn of_slice(alloc: Global, boundaries: &[RefDay]) -> Result<RtSet, NoMemory>
+        requires { Rises before_all boundaries.now }
+        ensures { IfOk result (λ s. s ≡ ranges_of boundaries.now) }
+    {
+        let owned = Vec::from_slice(alloc, boundaries)?;
+        Ok(RtSet::of_boundaries(alloc, owned))
     }
 
     /// The days of a cut.
@@ -93,19 +101,22 @@ impl RtSet {
         ensures { IfOk result (λ s. s ≡ ranges_of_cut c.now) }
     {
         let (days, count) = cut_boundaries(c);
-        let boundaries = Vec::from_slice(alloc, &days[..count])?;
-        Ok(RtSet { alloc, boundaries })
+        RtSet::of_slice(alloc, &days[..count])
+    }
+
+    // The set with those boundaries.
+    pub(crate) fn of_boundaries(alloc: Global, boundaries: Vec<RefDay>) -> RtSet
+        requires { Rises before_all boundaries.items }
+        ensures { result ≡ ranges_of boundaries.items }
+    {
+        RtSet { alloc, boundaries }
     }
 
     /// The same set, on its own memory.
     pub fn copy(&self) -> Result<RtSet, NoMemory>
         ensures { IfOk result (λ s. s ≡ self.now) }
     {
-        let boundaries = Vec::from_slice(self.alloc, self.boundaries.as_slice())?;
-        Ok(RtSet {
-            alloc: self.alloc,
-            boundaries,
-        })
+        RtSet::of_slice(self.alloc, self.boundaries.as_slice())
     }
 
     // The set that the operation makes of two sets, given by their boundaries.
@@ -119,7 +130,7 @@ impl RtSet {
         Ok(RtSet { alloc, boundaries })
     }
 
-    /// The days that one of the two sets holds.
+    /// The days that at least one of the two sets holds.
     pub fn union(&self, other: &RtSet) -> Result<RtSet, NoMemory>
         ensures { IfOk result (λ s. (d : ℤ) → holds_day s d ≡ (holds_day self.now d || holds_day other.now d)) }
     {
@@ -147,11 +158,11 @@ impl RtSet {
     pub fn complement(&self) -> Result<RtSet, NoMemory>
         ensures { IfOk result (λ s. (d : ℤ) → IsRefDay d → holds_day s d ≡ not (holds_day self.now d)) }
     {
-        let all = [RefDay::FIRST];
+        let whole = [RefDay::FIRST];
         RtSet::combined(
             self.alloc,
             Op::Minus,
-            all.as_slice(),
+            whole.as_slice(),
             self.boundaries.as_slice(),
         )
     }

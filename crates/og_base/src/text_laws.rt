@@ -2,6 +2,8 @@
 ghost use Rattle.std.specs.Prelude.{◌≡◌, ◌↔◌, ◌≤ℤ◌, ◌<ℤ◌, ℕ, ℤ, pos, List, length};
 ghost use Rattle.jiff_core.specs.Calendar.{IsBetween, days_from_civil};
 ghost use Rattle.og_base.specs.Calendar.{IsRefDayText, IsDayText};
+ghost use Rattle.og_base.specs.Ranges.{Range, IsNormal};
+ghost use Rattle.og_base.specs.SetTexts.{set_text};
 ghost use Rattle.og_base.specs.TextForms.{IsPlainDayText, day_bytes};
 ghost use Rattle.og_base.specs.OldTexts.{IsOldDayText, IsOldRefDayText, now_number, old_first, old_last};
 
@@ -22,4 +24,9 @@ pub fn old_day_texts()
     ensures first { days_from_civil (pos 1) 1 1 ≡ old_first }
     ensures last { days_from_civil (pos 9999) 12 31 ≡ old_last }
     ensures days { (text : List ℕ) (n : ℤ) → IsOldRefDayText text n → IsBetween old_first old_last n }
+{}
+
+/// Each set of days has one text, and each set text is of one set.
+pub fn one_text_a_set()
+    ensures { (s t : List Range) → IsNormal s → IsNormal t → set_text s ≡ set_text t → s ≡ t }
 {}

@@ -1,5 +1,5 @@
 -- The texts of points, cut at their plus sign.
-use Rattle.std.proofs.Common.{◌≡◌, ◌⊎◌, inl, inr, ◌++◌, ◌∷◌, [], ◌<◌, ◌≤◌, ◌+◌, ◌≤ℤ◌, ◌<ℤ◌, ℕ, zero, suc, ◌↔◌, Bool, true, false, IsTrue, ℤ, pos, negsuc, List, Option, Some, None, Result, SomeIff, IfOk, OnErr, length, length-append, codes, refl, sym, ap, ap₂, ◌∙◌, subst, arith}
+use Rattle.std.proofs.Common.{◌≡◌, ◌⊎◌, inl, inr, ◌++◌, ◌∷◌, [], ◌<◌, ◌<ℤ◌, ℕ, zero, suc, ◌↔◌, Bool, false, IsTrue, ℤ, pos, negsuc, List, Option, Some, None, Result, SomeIff, IfOk, OnErr, length, codes, refl, sym, ap, ap₂, ◌∙◌, subst, arith}
 use Rattle.std.proofs.lemmas.Int.{ints}
 use Rattle.std.proofs.lemmas.List.{append_assoc}
 use Rattle.std.specs.Option.{ok_or}

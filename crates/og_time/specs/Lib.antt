@@ -1,1 +1,3 @@
+pub mod FixedOperations
 pub mod Point
+pub mod PointOrder

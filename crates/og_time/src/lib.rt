@@ -1,6 +1,8 @@
 //! Ongoing points: days that are not fixed until a day is given.
 #![tactic(auto)]
 
+mod cuts;
+mod ends;
 mod point;
 mod text;
 

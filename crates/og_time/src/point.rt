@@ -1,7 +1,13 @@
 //! Ongoing points, and their values on a day.
-ghost use Rattle.std.specs.Prelude.{◌≡◌, ◌≤ℤ◌, SomeIff};
+ghost use Rattle.std.specs.Prelude.{◌≡◌, ◌≤ℤ◌, ℤ, SomeIff, int_lt, not};
+ghost use Rattle.std.specs.Ordering.{int_eq};
+ghost use Rattle.og_base.specs.Calendar.{IsRefDay};
+ghost use Rattle.og_base.specs.Ranges.{holds_day, ranges_of_cut};
+ghost use Rattle.og_time.specs.FixedOperations.{least_of, greatest_of};
 
-use og_base::{ExtDay, RefDay};
+use crate::cuts::{outside, within};
+use crate::ends::{earlier, later, parted_after, parted_before};
+use og_base::{Cut, ExtDay, RefDay};
 use std::marker::Model;
 
 /// An ongoing point `a+b`: two extended days, `a` at most `b`. Its value on a day is that day, but
@@ -65,12 +71,73 @@ impl OngoingPoint {
             self.high
         }
     }
+
+    /// The point that is the earlier of the two on every day.
+    pub fn least(self, other: OngoingPoint) -> OngoingPoint
+        ensures ends { result ≡ record { low = least_of self.low other.low; high = least_of self.high other.high } }
+        ensures value { (d : ℤ) → IsRefDay d → point_at result d ≡ least_of (point_at self d) (point_at other d) }
+    {
+        OngoingPoint {
+            low: earlier(self.low, other.low),
+            high: earlier(self.high, other.high),
+        }
+    }
+
+    /// The point that is the later of the two on every day.
+    pub fn greatest(self, other: OngoingPoint) -> OngoingPoint
+        ensures ends { result ≡ record { low = greatest_of self.low other.low; high = greatest_of self.high other.high } }
+        ensures value { (d : ℤ) → IsRefDay d → point_at result d ≡ greatest_of (point_at self d) (point_at other d) }
+    {
+        OngoingPoint {
+            low: later(self.low, other.low),
+            high: later(self.high, other.high),
+        }
+    }
+
+    /// The days on which this point is before the other.
+    pub fn lt_days(self, other: OngoingPoint) -> Cut
+        ensures { (d : ℤ) → IsRefDay d →
+            holds_day (ranges_of_cut result) d ≡ int_lt (point_at self d) (point_at other d) }
+    {
+        let before = parted_before(self.low, other.low);
+        let after = parted_after(self.high, other.high);
+        outside(before, after)
+    }
+
+    /// The days on which this point is at most the other.
+    pub fn le_days(self, other: OngoingPoint) -> Cut
+        ensures { (d : ℤ) → IsRefDay d →
+            holds_day (ranges_of_cut result) d ≡ not (int_lt (point_at other d) (point_at self d)) }
+    {
+        // The days on which the other point is not before this one.
+        let before = parted_before(other.low, self.low);
+        let after = parted_after(other.high, self.high);
+        within(before, after)
+    }
+
+    /// The days on which the two points are the same.
+    pub fn eq_days(self, other: OngoingPoint) -> Cut
+        ensures { (d : ℤ) → IsRefDay d →
+            holds_day (ranges_of_cut result) d ≡ int_eq (point_at self d) (point_at other d) }
+    {
+        // The days on which neither point is before the other.
+        let before = later(
+            parted_before(self.low, other.low),
+            parted_before(other.low, self.low),
+        );
+        let after = earlier(
+            parted_after(self.high, other.high),
+            parted_after(other.high, self.high),
+        );
+        within(before, after)
+    }
 }
 
 #[cfg(test)]
 mod tests {
     use super::*;
-    use og_base::{read_day, read_ref_day};
+    use crate::text::read_point;
+    use og_base::{RtSet, read_day, read_ref_day};
     use std::test::Fail;
 
     #[test]
@@ -100,5 +167,76 @@ mod tests {
     #[test]
     fn no_point_ends_before_it_begins(rt: HostRuntime) {
         assert!(rt; OngoingPoint::new(ExtDay::POS, ExtDay::NEG).is_none());
+    }
+
+    #[test]
+    fn points_are_compared_day_by_day(rt: HostRuntime) -> Result<(), Fail> {
+        for (left, right, day, less, same) in [
+            ("now", "2020-03-01", "2020-02-29", true, false),
+            ("now", "2020-03-01", "2020-03-01", false, true),
+            ("now", "2020-03-01", "2020-03-02", false, false),
+            (
+                "2020-01-01+2020-02-01",
+                "2020-01-05+2020-02-05",
+                "2020-01-04",
+                true,
+                false,
+            ),
+            (
+                "2020-01-01+2020-02-01",
+                "2020-01-05+2020-02-05",
+                "2020-01-05",
+                false,
+                true,
+            ),
+            (
+                "2020-01-01+2020-02-01",
+                "2020-01-05+2020-02-05",
+                "2020-02-01",
+                false,
+                true,
+            ),
+            (
+                "2020-01-01+2020-02-01",
+                "2020-01-05+2020-02-05",
+                "2020-02-02",
+                true,
+                false,
+            ),
+        ] {
+            let left = read_point(left.as_bytes())?;
+            let right = read_point(right.as_bytes())?;
+            let d = read_ref_day(day.as_bytes())?;
+            let less_days = RtSet::of_cut(rt.alloc(), &left.lt_days(right))?;
+            let same_days = RtSet::of_cut(rt.alloc(), &left.eq_days(right))?;
+            let most_days = RtSet::of_cut(rt.alloc(), &left.le_days(right))?;
+            assert_eq!(rt; less_days.contains(d), less, "{day}");
+            assert_eq!(rt; same_days.contains(d), same, "{day}");
+            assert_eq!(rt; most_days.contains(d), less || same, "{day}");
+        }
+        Ok(())
+    }
+
+    #[test]
+    fn the_least_is_the_earlier_of_two_points_on_each_day(rt: HostRuntime) -> Result<(), Fail> {
+        let now = read_point(b"now")?;
+        let march = read_point(b"2020-03-01")?;
+        for (day, least, greatest) in [
+            ("2020-02-01", "2020-02-01", "2020-03-01"),
+            ("2020-05-01", "2020-03-01", "2020-05-01"),
+        ] {
+            let d = read_ref_day(day.as_bytes())?;
+            assert_eq!(rt;
+                now.least(march).at(d),
+                read_day(least.as_bytes())?,
+                "{day}"
+            );
+            assert_eq!(rt;
+                now.greatest(march).at(d),
+                read_day(greatest.as_bytes())?,
+                "{day}"
+            );
+        }
+        Ok(())
     }
 }
