@@ -2,6 +2,7 @@ pub mod BoundaryLemmas
 pub mod ByteLemmas
 pub mod CivilDays
 pub mod DayTexts
+pub mod OldSetTexts
 pub mod OldTexts
 pub mod RangeLemmas
 pub mod ReadTexts

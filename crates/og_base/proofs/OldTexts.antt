@@ -39,7 +39,7 @@ IsOldRefDay-text text n (y, m, d, low, is, bytes, number) =
     let date = date_of (pos y) m d is in
     rw number (old_first-least date (omega (arith, signed_arith, low)), (epoch_day_range date).1)
 
-IsPlainDayText-old : (text : List ℕ) (n : ℤ) → IsOldRefDayText text n → IsPlainDayText text n
+pub IsPlainDayText-old : (text : List ℕ) (n : ℤ) → IsOldRefDayText text n → IsPlainDayText text n
 IsPlainDayText-old text n (y, m, d, low, is, bytes, number) = (pos y, m, d, is, bytes, number)
 
 now_number-kept : (n : ℤ) → old_first ≤ℤ n → now_number n ≡ n

@@ -1,8 +1,9 @@
--- The day texts of the earlier calendar, whose first day was 0001-01-01. Its numbers are written out.
-use Rattle.std.specs.Prelude.{◌≡◌, ◌⊎◌, ◌≤◌, ◌++◌, ℕ, ℤ, pos, neg_ℤ, List, ◌∷◌, codes, if◌then◌else◌}
+-- The texts of days and of sets of days in the earlier calendar, whose first day was 0001-01-01. Its numbers are written out.
+use Rattle.std.specs.Prelude.{◌≡◌, ◌≢◌, ◌⊎◌, ◌≤◌, ◌<ℤ◌, ◌++◌, ℕ, ℤ, pos, neg_ℤ, List, [], ◌∷◌, codes, if◌then◌else◌}
 use Rattle.std.specs.Ordering.{int_eq}
 use Rattle.jiff_core.specs.Calendar.{IsCivilDate, days_from_civil}
 use Rattle.og_base.specs.Calendar.{before_all}
+use Rattle.og_base.specs.Ranges.{Range}
 use Rattle.og_base.specs.TextForms.{two_digits, four_digits}
 
 -- 0001-01-01, counted from 1970-01-01
@@ -36,3 +37,36 @@ IsOldDayText text n =
 -- the number that the day has now: that of -infinity is another, each other is the same
 abbrev pub now_number : ℤ → ℤ
 now_number n = if int_eq n old_before then before_all else n
+
+-- the text of a lower end: -infinity for the first day of the earlier calendar, the day's text for each other
+abbrev pub IsOldLowerText : List ℕ → ℤ → Type 0
+IsOldLowerText text n =
+    ((text ≡ codes "-infinity") × (n ≡ old_first))
+    ⊎ (IsOldRefDayText text n × (n ≢ old_first))
+
+-- the text of an upper end: infinity, or the day's text
+abbrev pub IsOldUpperText : List ℕ → ℤ → Type 0
+IsOldUpperText text n =
+    ((text ≡ codes "infinity") × (n ≡ old_after))
+    ⊎ IsOldRefDayText text n
+
+-- the two ends in brackets, with a comma between them, and the lower before the upper
+pub record IsOldRangeText (text : List ℕ) (r : Range) : Type 0 where
+  pub lower : List ℕ
+  pub upper : List ℕ
+  pub lo : IsOldLowerText lower r.lo
+  pub hi : IsOldUpperText upper r.hi
+  pub some : r.lo <ℤ r.hi
+  pub joined : text ≡ 91 ∷ lower ++ (44 ∷ upper ++ 41 ∷ [])
+
+-- ranges that rise and do not touch, with a comma between each two
+abbrev pub IsOldRangesText : List ℕ → List Range → Type 0
+IsOldRangesText text [] = text ≡ []
+IsOldRangesText text (r ∷ []) = IsOldRangeText text r
+IsOldRangesText text (r ∷ (q ∷ rs)) =
+    (first : List ℕ) × (rest : List ℕ) × IsOldRangeText first r × (r.hi <ℤ q.lo) × IsOldRangesText rest (q ∷ rs)
+    × (text ≡ first ++ 44 ∷ rest)
+
+-- a set text of the earlier calendar, and the ranges of its set: the ranges in braces
+abbrev pub IsOldSetText : List ℕ → List Range → Type 0
+IsOldSetText text s = (ranges : List ℕ) × IsOldRangesText ranges s × (text ≡ 123 ∷ ranges ++ 125 ∷ [])

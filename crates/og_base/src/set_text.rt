@@ -209,12 +209,55 @@ fn put_range(range: DayRange, out: &mut Vec<u8>) -> Result<(), NoMemory>
 }
 
 // Appends the text of the day as a lower end.
-fn write_lower(day: RefDay, out: &mut Vec<u8>) -> Result<(), NoMemory>
-    ensures written { OnOk result (out.new.items ≡ out.old.items ++ lower_text day) }
+fn write_lower(lo: RefDay, out: &mut Vec<u8>) -> Result<(), NoMemory>
+    ensures written { OnOk result (out.new.items ≡ out.old.items ++ lower_text lo) }
     ensures refused { OnErr result (out.new.items ≡ out.old.items) }
 {
-    if day == RefDay::FIRST {
+    if lo == RefDay::FIRST {
         return write_day(ExtDay::NEG, out);
     }
-    write_day(ExtDay::of(day), out)
+    write_day(ExtDay::of(lo), out)
+}
+
+#[cfg(test)]
+mod tests {
+    use super::*;
+    use std::test::Fail;
+
+    #[test]
+    fn each_set_text_is_read_and_written(rt: HostRuntime) -> Result<(), Fail> {
+        for text in [
+            "{}",
+            "{[-infinity,infinity)}",
+            "{[2020-01-01,2020-01-05)}",
+            "{[-infinity,2020-01-01),[2020-01-05,infinity)}",
+            "{[0001-01-01,infinity)}",
+        ] {
+            let set = read_rt(rt.alloc(), text.as_bytes())?;
+            let mut out = Vec::new(rt.alloc());
+            write_rt(&set, &mut out)?;
+            assert_eq!(rt; out.as_slice(), text.as_bytes(), "{text}");
+        }
+        Ok(())
+    }
+
+    #[test]
+    fn no_other_text_is_a_set(rt: HostRuntime) {
+        for text in [
+            "{[-009999-01-01,infinity)}",
+            "{[2020-01-01,2020-01-05),[2020-01-05,infinity)}",
+            "{[2020-01-05,2020-01-01)}",
+            "{[2020-01-01,2020-01-01)}",
+            "{[2020-01-01,infinity)",
+            "[2020-01-01,infinity)",
+            "{ }",
+            "{[2020-01-01,2020-01-05),}",
+            "",
+            "{[infinity,infinity)}",
+            "{[2020-01-01,-infinity)}",
+        ] {
+            let read = read_rt(rt.alloc(), text.as_bytes());
+            assert_eq!(rt; read.err(), Some(RtRefusal::NotASet), "{text}");
+        }
+    }
 }

@@ -1,11 +1,11 @@
-//! Laws on the texts of days, over their definitions alone.
+//! Laws on the texts of days and of sets of days, over their definitions alone.
 ghost use Rattle.std.specs.Prelude.{◌≡◌, ◌↔◌, ◌≤ℤ◌, ◌<ℤ◌, ℕ, ℤ, pos, List, length};
 ghost use Rattle.jiff_core.specs.Calendar.{IsBetween, days_from_civil};
 ghost use Rattle.og_base.specs.Calendar.{IsRefDayText, IsDayText};
-ghost use Rattle.og_base.specs.Ranges.{Range, IsNormal};
+ghost use Rattle.og_base.specs.Ranges.{Range, IsNormal, holds_day};
 ghost use Rattle.og_base.specs.SetTexts.{set_text};
 ghost use Rattle.og_base.specs.TextForms.{IsPlainDayText, day_bytes};
-ghost use Rattle.og_base.specs.OldTexts.{IsOldDayText, IsOldRefDayText, now_number, old_first, old_last};
+ghost use Rattle.og_base.specs.OldTexts.{IsOldDayText, IsOldRefDayText, IsOldSetText, now_number, old_first, old_last};
 
 /// The text of a reference day names a civil day: in a year from 0 on by ten bytes, four digits, a
 /// dash, two digits, a dash and two digits; in a year before it by thirteen bytes, with a dash and
@@ -29,4 +29,12 @@ pub fn old_day_texts()
 /// Each set of days has one text, and each set text is of one set.
 pub fn one_text_a_set()
     ensures { (s t : List Range) → IsNormal s → IsNormal t → set_text s ≡ set_text t → s ≡ t }
+{}
+
+/// Each set text of the earlier calendar is a set text, and the two sets hold the same days of the
+/// earlier calendar.
+pub fn old_set_texts()
+    ensures { (text : List ℕ) → (s : List Range) → IsOldSetText text s →
+        (t : List Range) × IsNormal t × (text ≡ set_text t)
+        × ((d : ℤ) → old_first ≤ℤ d → d ≤ℤ old_last → holds_day s d ≡ holds_day t d) }
 {}

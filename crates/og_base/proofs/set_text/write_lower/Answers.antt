@@ -6,5 +6,5 @@ use Rattle.og_base.proofs.set_text.write_lower.Goals as goal
 
 pub returns-then-eq-clause-written : goal.returns-then-eq-clause-written
 returns-then-eq-clause-written c =
-    let first = (Decides-int_eq c.args.day first_day).0 (sym c.eq.ensures ∙ c.if-eq.true) in
-    rw (← lower_text-infinity c.args.day first) c.write_day.ensures.written
+    let first = (Decides-int_eq c.args.lo first_day).0 (sym c.eq.ensures ∙ c.if-eq.true) in
+    rw (← lower_text-infinity c.args.lo first) c.write_day.ensures.written
