@@ -1,5 +1,5 @@
 -- The days on which one point is before another.
-use Rattle.std.proofs.Common.{◌≡◌, ◌≤ℤ◌, ◌<ℤ◌, ℤ, Bool, true, false, not, ◌&&◌, ◌||◌, int_lt, refl, ◌∙◌, ap, ap₂, arith}
+use Rattle.std.proofs.Common.{◌≡◌, ◌≤ℤ◌, ◌<ℤ◌, ℤ, Bool, true, false, not, ◌&&◌, ◌||◌, int_lt, int_le, refl, ◌∙◌, ap, ap₂, arith}
 use Rattle.std.specs.Ordering.{int_eq}
 use Rattle.std.proofs.lemmas.Int.{ints}
 use Rattle.og_base.specs.Calendar.{IsRefDay}
@@ -111,3 +111,7 @@ not_parted p q d h k r = neither_of (int_lt d (parted_before p.low q.low)) _ ∙
     neither_of : (s t : Bool) → (not s && not t) ≡ not (s || t)
     neither_of true t = refl
     neither_of false t = refl
+
+-- a day is at most another where the other is not before it
+pub int_le-not : (x y : ℤ) → not (int_lt y x) ≡ int_le x y
+int_le-not x y = grind (arith, ints)

@@ -29,7 +29,7 @@ no_ends low high m n p a b out h =
     let last = one_end high after_all p.high n h.high_end b in
     out (omega (arith, ints, first, last, h.rising))
 
-plus_between : (first last : List ℕ) → first ++ codes "+" ++ last ≡ first ++ 43 ∷ last
+pub plus_between : (first last : List ℕ) → first ++ codes "+" ++ last ≡ first ++ 43 ∷ last
 plus_between first last = append_assoc first (43 ∷ []) last
 
 -- a text with two sides is the text of the point with these ends
@@ -140,7 +140,7 @@ Lacks-whole_text text p (inl fixed) = Lacks-day_text 43 text p.low (omega arith)
 Lacks-whole_text text p (inr now) = rw now.0 (λ e. omega (arith, e), (λ e. omega (arith, e), (λ e. omega (arith, e), tt)))
 
 -- a point text is whole, or is cut at its plus sign
-whole_or_cut : (text : List ℕ) (p : Point) → IsPointText text p → IsWholeText text p ⊎ ((low high : List ℕ) × IsCutAt 43 text low high)
+pub whole_or_cut : (text : List ℕ) (p : Point) → IsPointText text p → IsWholeText text p ⊎ ((low high : List ℕ) × IsCutAt 43 text low high)
 whole_or_cut text p (inl fixed) = inl (inl fixed)
 whole_or_cut text p (inr (inl now)) = inl (inr now)
 whole_or_cut text p (inr (inr (inl (day, is, first, last)))) =

@@ -1,3 +1,4 @@
 pub mod FixedOperations
+pub mod Period
 pub mod Point
 pub mod PointOrder

@@ -1,6 +1,7 @@
 -- Ongoing points: their values on a day, and their texts.
-use Rattle.std.specs.Prelude.{◌≡◌, ◌+◌, ◌<◌, length, [], ◌⊎◌, ◌++◌, ◌≤ℤ◌, ◌<ℤ◌, ℤ, List, ℕ, codes, int_lt, if◌then◌else◌}
-use Rattle.og_base.specs.Calendar.{IsExtDay, IsDayText, IsRefDayText, before_all, after_all}
+use Rattle.std.specs.Prelude.{◌≡◌, ◌+◌, ◌<◌, length, [], ◌⊎◌, ◌++◌, ◌≤ℤ◌, ◌<ℤ◌, ℤ, List, ℕ, codes, int_lt, ◌&&◌, if◌then◌else◌}
+use Rattle.std.specs.Ordering.{int_eq}
+use Rattle.og_base.specs.Calendar.{IsExtDay, IsDayText, IsRefDayText, before_all, after_all, day_text}
 
 -- the point low+high
 pub record Point : Type 0 where
@@ -59,6 +60,17 @@ pub record AreEndTexts (low high : List ℕ) (p : Point) : Type 0 where
   pub high_end : IsEndText high after_all p.high
   pub rising : p.low <ℤ p.high
   pub some : 0 < length low + length high
+
+-- the one text of one side of the plus sign
+abbrev pub end_text : ℤ → ℤ → List ℕ
+end_text n open_end = if int_eq n open_end then [] else day_text n
+
+-- the one text of a point: that of its day, now, or the sides of the plus sign
+unfoldable pub point_text : Point → List ℕ
+point_text p =
+    if int_eq p.low p.high then day_text p.low
+    else (if int_eq p.low before_all && int_eq p.high after_all then codes "now"
+    else end_text p.low before_all ++ codes "+" ++ end_text p.high after_all)
 
 -- a point text without a plus sign
 abbrev pub IsWholeText : List ℕ → Point → Type 0

@@ -44,6 +44,13 @@ impl OngoingPoint {
         Some(OngoingPoint { low: a, high: b })
     }
 
+    /// The low end is at most the high end, and both are extended days.
+    pub fn ordered(self)
+        ensures { IsPoint self }
+    {
+        let _ = self.low;
+    }
+
     /// The first day that the point's value may be.
     pub fn low(self) -> ExtDay
         ensures { result ≡ self.low }

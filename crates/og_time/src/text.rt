@@ -1,9 +1,12 @@
 //! The texts of ongoing points.
-ghost use Rattle.std.specs.Prelude.{◌≡◌, ◌↔◌, ◌+◌, length, IsTrue, IfOk, OnErr, ℤ};
-ghost use Rattle.og_time.specs.Point.{Point, IsPointText, IsNowText, IsWholeText, AreEndTexts, IsEndText};
+ghost use Rattle.std.specs.Prelude.{◌≡◌, ◌↔◌, ◌+◌, ◌++◌, ◌&&◌, length, IsTrue, IfOk, OnOk, OnErr, ℕ, ℤ, List};
+ghost use Rattle.std.specs.Ordering.{int_eq};
+ghost use Rattle.og_base.specs.Calendar.{before_all, after_all};
+ghost use Rattle.og_base.specs.Told.{IsPrefix};
+ghost use Rattle.og_time.specs.Point.{Point, IsPoint, IsPointText, IsNowText, IsWholeText, AreEndTexts, IsEndText, end_text, point_text};
 
 use crate::point::OngoingPoint;
-use og_base::{ExtDay, cut_at, read_day, read_ref_day};
+use og_base::{ExtDay, NoMemory, cut_at, read_day, read_ref_day, write_day};
 use thiserror::Error;
 
 /// The bytes are no point text.
@@ -83,13 +86,69 @@ fn read_now(text: &[u8]) -> Result<OngoingPoint, NotAPoint>
     OngoingPoint::new(ExtDay::NEG, ExtDay::POS).ok_or(NotAPoint)
 }
 
+/// Appends the one text of the point, or nothing where memory runs out.
+pub fn write_point(p: OngoingPoint, out: &mut Vec<u8>) -> Result<(), NoMemory>
+    ensures written { OnOk result (out.new.items ≡ out.old.items ++ point_text p) }
+    ensures refused { OnErr result (out.new.items ≡ out.old.items) }
+{
+    let before = out.len();
+    let Ok(()) = append_point(p, out) else {
+        out.truncate(before);
+        return Err(NoMemory);
+    };
+    Ok(())
+}
+
+// Appends the text of the point. Where memory runs out, a front of it may stand.
+fn append_point(p: OngoingPoint, out: &mut Vec<u8>) -> Result<(), NoMemory>
+    ensures written { OnOk result (out.new.items ≡ out.old.items ++ point_text p) }
+    ensures refused { OnErr result (IsPrefix out.old.items out.new.items) }
+{
+    if p.low() == p.high() {
+        return write_day(p.low(), out);
+    }
+    if is_now(p) {
+        out.extend_from_slice(b"now")?;
+        return Ok(());
+    }
+    append_end(p.low(), ExtDay::NEG, out)?;
+    out.push(b'+')?;
+    append_end(p.high(), ExtDay::POS, out)
+}
+
+// Whether both ends are open.
+fn is_now(p: OngoingPoint) -> bool
+    ensures { result ≡ (int_eq p.low before_all && int_eq p.high after_all) }
+{
+    p.low() == ExtDay::NEG && p.high() == ExtDay::POS
+}
+
+// Appends one side of the plus sign, or nothing where memory runs out.
+fn append_end(day: ExtDay, open_end: ExtDay, out: &mut Vec<u8>) -> Result<(), NoMemory>
+    ensures written { OnOk result (out.new.items ≡ out.old.items ++ end_text day open_end) }
+    ensures refused { OnErr result (out.new.items ≡ out.old.items) }
+{
+    if day == open_end {
+        return Ok(());
+    }
+    write_day(day, out)
+}
+
+/// Reading and writing are one another's inverse: each point has one text, each text is of at most
+/// one point, and the text that is written for a point is its text.
+pub fn one_text_a_point()
+    ensures one_text { (text : List ℕ) (p : Point) → IsPoint p → IsPointText text p → text ≡ point_text p }
+    ensures one_point { (text : List ℕ) (p q : Point) → IsPointText text p → IsPointText text q → p ≡ q }
+    ensures written { (p : Point) → IsPoint p → IsPointText (point_text p) p }
+{}
+
 #[cfg(test)]
 mod tests {
     use super::*;
     use std::test::Fail;
 
     #[test]
-    fn each_form_of_a_point_is_read(rt: HostRuntime) -> Result<(), Fail> {
+    fn each_form_of_a_point_is_read_and_written(rt: HostRuntime) -> Result<(), Fail> {
         for (text, low, high) in [
             ("2020-01-01", "2020-01-01", "2020-01-01"),
             ("infinity", "infinity", "infinity"),
@@ -102,6 +161,9 @@ mod tests {
             let point = read_point(text.as_bytes())?;
             assert_eq!(rt; point.low(), read_day(low.as_bytes())?, "{text}");
             assert_eq!(rt; point.high(), read_day(high.as_bytes())?, "{text}");
+            let mut out = Vec::new(rt.alloc());
+            write_point(point, &mut out)?;
+            assert_eq!(rt; out.as_slice(), text.as_bytes(), "{text}");
         }
         Ok(())
     }
