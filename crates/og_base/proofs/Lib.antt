@@ -7,6 +7,7 @@ pub mod OldTexts
 pub mod RangeLemmas
 pub mod ReadTexts
 pub mod SetLemmas
+pub mod SetMembers
 pub mod SetTexts
 pub mod SetOpLemmas
 pub mod SideLemmas

@@ -11,7 +11,7 @@ use Rattle.std.proofs.lemmas.List.Kept.{IsStrictlySortedBy-filter}
 use Rattle.og_base.specs.Set.{IsExact, IsExactOrder, IsWithin, by_order, with_member, set_of}
 
 -- what holds of each of the three holds of the one that the answer picks
-by_order-is : {A : Type 0} (P : A → Type 0) (o : Ordering) (a b c : A) → (o ≡ Less → P a) → (o ≡ Equal → P b) → (o ≡ Greater → P c) → P (by_order o a b c)
+pub by_order-is : {A : Type 0} (P : A → Type 0) (o : Ordering) (a b c : A) → (o ≡ Less → P a) → (o ≡ Equal → P b) → (o ≡ Greater → P c) → P (by_order o a b c)
 by_order-is P Less a b c f g h = f refl
 by_order-is P Equal a b c f g h = g refl
 by_order-is P Greater a b c f g h = h refl

@@ -222,6 +222,8 @@ fn write_lower(lo: RefDay, out: &mut Vec<u8>) -> Result<(), NoMemory>
 #[cfg(test)]
 mod tests {
     use super::*;
+    use crate::range::Cut;
+    use crate::rt_set::meet_cuts;
     use std::test::Fail;
 
     #[test]
@@ -258,6 +260,59 @@ mod tests {
         ] {
             let read = read_rt(rt.alloc(), text.as_bytes());
             assert_eq!(rt; read.err(), Some(RtRefusal::NotASet), "{text}");
+        }
+    }
+
+    #[test]
+    fn the_days_of_four_cuts_are_one_set(rt: HostRuntime) -> Result<(), Fail> {
+        let all = one("-infinity", "infinity");
+        for (cuts, days) in [
+            (
+                [
+                    one("2020-01-26", "infinity"),
+                    all,
+                    one("-infinity", "2020-08-16"),
+                    one("2020-08-15", "infinity"),
+                ],
+                "{[2020-08-15,2020-08-16)}",
+            ),
+            (
+                [
+                    outside("2020-01-01", "2020-02-01"),
+                    one("2019-12-31", "2020-02-02"),
+                    all,
+                    all,
+                ],
+                "{[2019-12-31,2020-01-01),[2020-02-01,2020-02-02)}",
+            ),
+        ] {
+            let [first, second, third, fourth] = cuts;
+            let set = meet_cuts(rt.alloc(), first, second, third, fourth)?;
+            let mut out = Vec::new(rt.alloc());
+            write_rt(&set, &mut out)?;
+            assert_eq!(rt; out.as_slice(), days.as_bytes(), "{days}");
+        }
+        Ok(())
+    }
+
+    // The cut of one range.
+    fn one(lower: &str, upper: &str) -> Cut {
+        Cut {
+            first: range_of(lower.as_bytes(), upper.as_bytes()),
+            second: None,
+        }
+    }
+
+    // The cut of the days before one day, and of those from a later day on.
+    fn outside(end: &str, next: &str) -> Cut {
+        let first = range_of(b"-infinity", end.as_bytes());
+        let second = range_of(next.as_bytes(), b"infinity");
+        match (first, second) {
+            (Some(a), Some(b)) if a.hi.number() < b.lo.number() => Cut { first, second },
+            _ => Cut {
+                first,
+                second: None,
+            },
         }
     }
 }
