@@ -1,7 +1,6 @@
 //! The texts of sets of days.
 ghost use Rattle.std.specs.Prelude.{◌≡◌, ◌++◌, ◌∷◌, [], ℕ, ℤ, List, Err, IfOk, IfSome, IfNone, OnOk, OnErr};
-ghost use Rattle.og_base.specs.Bytes.{Lacks};
-ghost use Rattle.og_base.specs.Calendar.{IsRefDay, IsExtDay, day_text};
+ghost use Rattle.og_base.specs.Calendar.{IsRefDay, day_text};
 ghost use Rattle.og_base.specs.Ranges.{Range, IsRange, IsNormal};
 ghost use Rattle.og_base.specs.Boundaries.{boundaries_of};
 ghost use Rattle.og_base.specs.SetTexts.{lower_text, range_text, ranges_text, set_text, IsEndsOf, IsRangeBefore};

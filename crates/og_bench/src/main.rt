@@ -3,10 +3,10 @@
 
 use og_base::{ExtDay, NoMemory, RefDay, RtSet};
 use std::alloc::Global;
+use std::env;
 use std::io::Error;
 use std::process::ExitCode;
 use std::time::{Clock, Instant};
-use std::env;
 
 // The days from the start of a range to the start of the next.
 const STEP: u32 = 4;
@@ -79,7 +79,11 @@ fn spaced(alloc: Global, first: u32, count: u32) -> Result<RtSet, NoMemory> {
     }
     let half = count / 2;
     let left = spaced(alloc, first, half)?;
-    let right = spaced(alloc, first.wrapping_add(STEP.wrapping_mul(half)), count - half)?;
+    let right = spaced(
+        alloc,
+        first.wrapping_add(STEP.wrapping_mul(half)),
+        count - half,
+    )?;
     left.union(&right)
 }
 
