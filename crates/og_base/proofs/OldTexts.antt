@@ -42,7 +42,8 @@ IsOldRefDay-text text n (y, m, d, low, is, bytes, number) =
 pub IsPlainDayText-old : (text : List ℕ) (n : ℤ) → IsOldRefDayText text n → IsPlainDayText text n
 IsPlainDayText-old text n (y, m, d, low, is, bytes, number) = (pos y, m, d, is, bytes, number)
 
-now_number-kept : (n : ℤ) → old_first ≤ℤ n → now_number n ≡ n
+-- the days of the earlier calendar keep their numbers
+pub now_number-kept : (n : ℤ) → old_first ≤ℤ n → now_number n ≡ n
 now_number-kept n h = by (int_eq n old_before) refl
   where
     by : (b : Bool) → int_eq n old_before ≡ b → cond b before_all n ≡ n

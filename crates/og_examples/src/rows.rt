@@ -89,13 +89,19 @@ mod tests {
         assert!(rt; !held(rt.alloc(), &Passed, &row, RefDay::FIRST)?);
         assert!(rt; !held(rt.alloc(), &Passed, &later, RefDay::LAST)?);
         assert!(rt; row.same(rt.alloc(), &later)?.is_empty());
-        assert!(rt; row.same(rt.alloc(), &row)?.contains(RefDay::LAST));
+        let same = row.same(rt.alloc(), &copied(rt.alloc(), &row)?)?;
+        assert!(rt; same.contains(RefDay::LAST));
         Ok(())
     }
 
-    // The second row glued to the first, where the second is the same as its copy.
+    // The second row glued to the first.
     fn glued<R: Glue>(alloc: Global, left: &R, right: &R) -> Result<R, NoMemory> {
-        left.glue(alloc, &right.copy(alloc)?)
+        left.glue(alloc, right)
+    }
+
+    // The same row once more.
+    fn copied<R: OngoingRow>(alloc: Global, row: &R) -> Result<R, NoMemory> {
+        row.copy(alloc)
     }
 
     // The image of the row.

@@ -1,0 +1,13 @@
+use Rattle.std.proofs.Common.{◌∙◌, ◌&&◌, int_eq, ap}
+use Rattle.std.proofs.lemmas.Result.{IfOk-weaker}
+use Rattle.og_time.specs.FixedOperations.{are_nonempty}
+use Rattle.og_time.specs.Period.{period_at}
+use Rattle.og_time.proofs.PredicateDays.{of_same, alone}
+use Rattle.og_time.proofs.period.OngoingPeriod.starts.Goals as goal
+
+pub returns : goal.returns
+returns c =
+    IfOk-weaker c.both_nonempty.result _ _
+    (λ b f d i. f d i ∙ ap (λ t. are_nonempty (period_at c.args.self d) (period_at c.args.other d) && t)
+    (alone (of_same int_eq d c.start.ensures.point c.start-2.ensures.point (c.eq_days-comparison.ensures d i)) (c.every_day.ensures d i)))
+    c.both_nonempty.ensures

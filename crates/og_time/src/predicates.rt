@@ -1,0 +1,165 @@
+//! What holds of two ongoing periods, or of a period and a point, on which days.
+//!
+//! Each of the seven predicates asks that both periods are nonempty, and one or two comparisons of
+//! their ends (docs/FORMATS.md, "Periods").
+ghost use Rattle.std.specs.Prelude.{◌≡◌, ◌&&◌, ℤ, true, IfOk};
+ghost use Rattle.og_base.specs.Calendar.{IsRefDay};
+ghost use Rattle.og_base.specs.Ranges.{holds_day, ranges_of_cut};
+ghost use Rattle.og_time.specs.FixedOperations.{contains_day, are_nonempty, is_before, meets_period, overlaps_period, starts_period, finishes_period, is_during, equals_period};
+ghost use Rattle.og_time.specs.Point.{point_at};
+ghost use Rattle.og_time.specs.Period.{period_at};
+
+use crate::cuts::within;
+use crate::ongoing_bool::OngoingBool;
+use crate::period::OngoingPeriod;
+use crate::point::OngoingPoint;
+use og_base::{Cut, ExtDay, NoMemory, meet_cuts};
+use std::alloc::Global;
+
+impl OngoingPeriod {
+    /// Whether the point is in the period: at least its start, and before its end.
+    pub fn contains(self, alloc: Global, p: OngoingPoint) -> Result<OngoingBool, NoMemory>
+        ensures { IfOk result (λ b. (d : ℤ) → IsRefDay d → holds_day b d ≡ contains_day (period_at self d) (point_at p d)) }
+    {
+        let (from, to) = (self.start().le_days(p), p.lt_days(self.end()));
+        let days = meet_cuts(alloc, from, to, every_day(), every_day())?;
+        Ok(OngoingBool::of(days))
+    }
+
+    /// Whether this period ends at most where the other starts.
+    pub fn before(self, alloc: Global, other: OngoingPeriod) -> Result<OngoingBool, NoMemory>
+        ensures { IfOk result (λ b. (d : ℤ) → IsRefDay d → holds_day b d ≡ is_before (period_at self d) (period_at other d)) }
+    {
+        let comparison = self.end().le_days(other.start());
+        self.both_nonempty(alloc, other, comparison, every_day())
+    }
+
+    /// Whether this period ends where the other starts.
+    pub fn meets(self, alloc: Global, other: OngoingPeriod) -> Result<OngoingBool, NoMemory>
+        ensures { IfOk result (λ b. (d : ℤ) → IsRefDay d → holds_day b d ≡ meets_period (period_at self d) (period_at other d)) }
+    {
+        let comparison = self.end().eq_days(other.start());
+        self.both_nonempty(alloc, other, comparison, every_day())
+    }
+
+    /// Whether each of the two periods starts before the other ends.
+    pub fn overlaps(self, alloc: Global, other: OngoingPeriod) -> Result<OngoingBool, NoMemory>
+        ensures { IfOk result (λ b. (d : ℤ) → IsRefDay d → holds_day b d ≡ overlaps_period (period_at self d) (period_at other d)) }
+    {
+        let first = self.start().lt_days(other.end());
+        let second = other.start().lt_days(self.end());
+        self.both_nonempty(alloc, other, first, second)
+    }
+
+    /// Whether both periods have one start.
+    pub fn starts(self, alloc: Global, other: OngoingPeriod) -> Result<OngoingBool, NoMemory>
+        ensures { IfOk result (λ b. (d : ℤ) → IsRefDay d → holds_day b d ≡ starts_period (period_at self d) (period_at other d)) }
+    {
+        let comparison = self.start().eq_days(other.start());
+        self.both_nonempty(alloc, other, comparison, every_day())
+    }
+
+    /// Whether both periods have one end.
+    pub fn finishes(self, alloc: Global, other: OngoingPeriod) -> Result<OngoingBool, NoMemory>
+        ensures { IfOk result (λ b. (d : ℤ) → IsRefDay d → holds_day b d ≡ finishes_period (period_at self d) (period_at other d)) }
+    {
+        let comparison = self.end().eq_days(other.end());
+        self.both_nonempty(alloc, other, comparison, every_day())
+    }
+
+    /// Whether this period starts at least where the other does, and ends at most where it does.
+    pub fn during(self, alloc: Global, other: OngoingPeriod) -> Result<OngoingBool, NoMemory>
+        ensures { IfOk result (λ b. (d : ℤ) → IsRefDay d → holds_day b d ≡ is_during (period_at self d) (period_at other d)) }
+    {
+        let first = other.start().le_days(self.start());
+        let second = self.end().le_days(other.end());
+        self.both_nonempty(alloc, other, first, second)
+    }
+
+    /// Whether both periods have one start and one end.
+    pub fn equals(self, alloc: Global, other: OngoingPeriod) -> Result<OngoingBool, NoMemory>
+        ensures { IfOk result (λ b. (d : ℤ) → IsRefDay d → holds_day b d ≡ equals_period (period_at self d) (period_at other d)) }
+    {
+        let first = self.start().eq_days(other.start());
+        let second = self.end().eq_days(other.end());
+        self.both_nonempty(alloc, other, first, second)
+    }
+
+    // Whether both periods are nonempty and both cuts hold the day.
+    fn both_nonempty(
+        self,
+        alloc: Global,
+        other: OngoingPeriod,
+        first: Cut,
+        second: Cut,
+    ) -> Result<OngoingBool, NoMemory>
+        ensures { IfOk result (λ b. (d : ℤ) → IsRefDay d → holds_day b d ≡ (are_nonempty (period_at self d) (period_at other d)
+            && (holds_day (ranges_of_cut first) d && holds_day (ranges_of_cut second) d))) }
+    {
+        let mine = self.start().lt_days(self.end());
+        let theirs = other.start().lt_days(other.end());
+        let days = meet_cuts(alloc, mine, theirs, first, second)?;
+        Ok(OngoingBool::of(days))
+    }
+}
+
+// The cut of all reference days.
+fn every_day() -> Cut
+    ensures { (d : ℤ) → IsRefDay d → holds_day (ranges_of_cut result) d ≡ true }
+{
+    within(ExtDay::NEG, ExtDay::POS)
+}
+
+#[cfg(test)]
+mod tests {
+    use super::*;
+    use crate::period_text::read_period;
+    use crate::text::read_point;
+    use og_base::write_rt;
+    use std::test::Fail;
+
+    #[test]
+    fn periods_follow_meet_and_overlap(rt: HostRuntime) -> Result<(), Fail> {
+        let alloc = rt.alloc();
+        let x = read_period(b"[2020-01-25,now)")?;
+        let y = read_period(b"[2020-08-15,2020-08-24)")?;
+        assert!(rt; is_on(alloc, x.before(alloc, y), "{[2020-01-26,2020-08-16)}")?);
+        assert!(rt; is_on(alloc, x.meets(alloc, y), "{[2020-08-15,2020-08-16)}")?);
+        assert!(rt; is_on(alloc, x.overlaps(alloc, y), "{[2020-08-16,infinity)}")?);
+        assert!(rt; is_on(alloc, x.finishes(alloc, y), "{[2020-08-24,2020-08-25)}")?);
+        Ok(())
+    }
+
+    #[test]
+    fn periods_share_their_ends(rt: HostRuntime) -> Result<(), Fail> {
+        let alloc = rt.alloc();
+        let x = read_period(b"[2020-01-25,now)")?;
+        let z = read_period(b"[2020-01-25,2020-08-24)")?;
+        assert!(rt; is_on(alloc, x.starts(alloc, z), "{[2020-01-26,infinity)}")?);
+        assert!(rt; is_on(alloc, x.during(alloc, z), "{[2020-01-26,2020-08-25)}")?);
+        assert!(rt; is_on(alloc, x.equals(alloc, z), "{[2020-08-24,2020-08-25)}")?);
+        let start = read_point(b"2020-01-25")?;
+        assert!(rt; is_on(alloc, x.contains(alloc, start), "{[2020-01-26,infinity)}")?);
+        Ok(())
+    }
+
+    #[test]
+    fn an_empty_period_overlaps_none(rt: HostRuntime) -> Result<(), Fail> {
+        let always = read_period(b"[-infinity,infinity)")?;
+        let never = read_period(b"[9999-12-31,now)")?;
+        assert!(rt; is_on(rt.alloc(), always.overlaps(rt.alloc(), never), "{}")?);
+        Ok(())
+    }
+
+    // Whether these are the days on which the answer is true.
+    fn is_on(
+        alloc: Global,
+        answer: Result<OngoingBool, NoMemory>,
+        days: &str,
+    ) -> Result<bool, NoMemory> {
+        let held = answer?.into_days();
+        let mut out = Vec::new(alloc);
+        write_rt(&held, &mut out)?;
+        Ok(out.as_slice() == days.as_bytes())
+    }
+}
