@@ -84,12 +84,12 @@ mod tests {
             &Deadline { day: RefDay::FIRST },
         )?;
         let later = mapped(rt.alloc(), &PutOff { to: RefDay::LAST }, &row)?;
-        assert_eq!(rt; row.at(rt.alloc(), RefDay::LAST)?, RefDay::FIRST);
+        assert_eq!(rt; value(rt.alloc(), &row, RefDay::LAST)?, RefDay::FIRST);
         assert!(rt; held(rt.alloc(), &Passed, &row, RefDay::LAST)?);
         assert!(rt; !held(rt.alloc(), &Passed, &row, RefDay::FIRST)?);
         assert!(rt; !held(rt.alloc(), &Passed, &later, RefDay::LAST)?);
-        assert!(rt; row.same(rt.alloc(), &later)?.is_empty());
-        let same = row.same(rt.alloc(), &copied(rt.alloc(), &row)?)?;
+        assert!(rt; alike(rt.alloc(), &row, &later)?.is_empty());
+        let same = alike(rt.alloc(), &row, &copied(rt.alloc(), &row)?)?;
         assert!(rt; same.contains(RefDay::LAST));
         Ok(())
     }
@@ -97,6 +97,16 @@ mod tests {
     // The second row glued to the first.
     fn glued<R: Glue>(alloc: Global, left: &R, right: &R) -> Result<R, NoMemory> {
         left.glue(alloc, right)
+    }
+
+    // The row's value on the day.
+    fn value<R: Instant>(alloc: Global, row: &R, d: RefDay) -> Result<R::Fixed, NoMemory> {
+        row.at(alloc, d)
+    }
+
+    // The days on which both rows are equal.
+    fn alike<R: OngoingRow>(alloc: Global, left: &R, right: &R) -> Result<RtSet, NoMemory> {
+        left.same(alloc, right)
     }
 
     // The same row once more.
