@@ -1,0 +1,5 @@
+pub mod Exact
+pub mod Order
+pub mod Schemas
+pub mod Values
+pub mod Words

@@ -1,0 +1,2 @@
+//! The texts of cells.
+use thiserror::Error;

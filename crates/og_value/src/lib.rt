@@ -1,0 +1,23 @@
+//! Values, rows and schemas, their cells, and what a crate above must know of named tables.
+#![tactic(auto)]
+
+mod catalog;
+mod cell;
+mod kind;
+mod listed;
+mod name;
+mod row;
+mod schema;
+mod term;
+mod text;
+mod value;
+
+pub use catalog::Catalog;
+
+pub use kind::{Kind, What};
+pub use name::{Name, NameRefusal};
+pub use row::{FixedRow, Row};
+pub use schema::{Column, Schema};
+pub use term::{Cmp, Func, Pred, SetOp};
+pub use text::{Text, TextRefusal};
+pub use value::{FixedValue, Value};

@@ -1,0 +1,156 @@
+//! Rows, whose values depend on the day, and rows of one day.
+ghost use Rattle.std.specs.Prelude.{◌≡◌, ◌<◌, ◌++◌, ℤ, length, slice_get, Some, IfOk, OnOk, List};
+ghost use Rattle.og_base.specs.Calendar.{IsRefDay};
+ghost use Rattle.og_base.specs.Ranges.{holds_day};
+ghost use Rattle.og_value.specs.Values.{row_at};
+
+use crate::listed::Listed;
+use crate::value::{FixedValue, Value};
+use og_base::{Glue, Instant, NoMemory, OngoingRow, RefDay, RtSet};
+use std::alloc::Global;
+use std::marker::Model;
+
+/// A row, seen as the list of its values.
+#[derive(Debug, PartialEq, Eq, Drop)]
+pub struct Row {
+    values: Listed<Value>,
+}
+
+impl Model for Row {
+    ghost use Rattle.std.specs.Prelude.{List};
+    ghost use Rattle.og_value.specs.declared.value.Value.{Value as OneValue};
+
+    ghost Value = { List OneValue };
+
+    ghost view = { λ r. r.values };
+
+    ghost inverse = { λ vs. record { values = vs } };
+}
+
+/// A row on one day, seen as the list of its values. Rows are ordered from the left, and a row comes
+/// after each front of it.
+#[derive(Debug, PartialEq, Eq, PartialOrd, Ord, Drop)]
+pub struct FixedRow {
+    values: Listed<FixedValue>,
+}
+
+impl Model for FixedRow {
+    ghost use Rattle.std.specs.Prelude.{List};
+    ghost use Rattle.og_value.specs.declared.value.FixedValue.{FixedValue};
+
+    ghost Value = { List FixedValue };
+
+    ghost view = { λ r. r.values };
+
+    ghost inverse = { λ vs. record { values = vs } };
+}
+
+impl Row {
+    /// The row of the values.
+    pub fn of(values: Vec<Value>) -> Row
+        ensures { result ≡ values.items }
+    {
+        Row {
+            values: Listed::of(values),
+        }
+    }
+
+    /// The number of values.
+    pub fn len(&self) -> usize
+        ensures { result ≡ length self.now }
+    {
+        self.values.len()
+    }
+
+    /// The value with that number, counted from 0.
+    pub fn value(&self, i: usize) -> &Value
+        requires { i < length self.now }
+        ensures { slice_get self.now i ≡ Some result.now }
+    {
+        self.values.part(i)
+    }
+}
+
+impl FixedRow {
+    /// The row of the values.
+    pub fn of(values: Vec<FixedValue>) -> FixedRow
+        ensures { result ≡ values.items }
+    {
+        FixedRow {
+            values: Listed::of(values),
+        }
+    }
+
+    /// The number of values.
+    pub fn len(&self) -> usize
+        ensures { result ≡ length self.now }
+    {
+        self.values.len()
+    }
+
+    /// The value with that number, counted from 0.
+    pub fn value(&self, i: usize) -> &FixedValue
+        requires { i < length self.now }
+        ensures { slice_get self.now i ≡ Some result.now }
+    {
+        self.values.part(i)
+    }
+}
+
+impl Instant for Row {
+    ghost use Rattle.og_value.specs.Exact.{rows_exact};
+
+    type Fixed = FixedRow;
+
+    ghost meaning = { λ row d. row_at row d };
+
+    fn at(&self, alloc: Global, d: RefDay) -> Result<FixedRow, NoMemory> {
+        let mut values = Vec::with_capacity(alloc, self.len())?;
+        'values: for value in self.values.as_slice() {
+            values.push(value.at(d)?)?;
+        }
+        Ok(FixedRow::of(values))
+    }
+
+    ghost exact = { rows_exact };
+}
+
+impl OngoingRow for Row {
+    fn same(&self, alloc: Global, other: &Row) -> Result<RtSet, NoMemory> {
+        if self.len() != other.len() {
+            return Ok(RtSet::empty(alloc));
+        }
+        let mut days = RtSet::all(alloc)?;
+        'columns: for i in 0..self.len() {
+            days = days.meet(&self.value(i).same(alloc, other.value(i))?)?;
+        }
+        Ok(days)
+    }
+
+    fn copy(&self, alloc: Global) -> Result<Row, NoMemory> {
+        let mut values = Vec::with_capacity(alloc, self.len())?;
+        append_copies(self.values.as_slice(), &mut values)?;
+        Ok(Row::of(values))
+    }
+}
+
+impl Glue for Row {
+    ghost glued = { λ left right. left ++ right };
+
+    fn glue(&self, alloc: Global, right: &Row) -> Result<Row, NoMemory> {
+        let mut values = Vec::with_capacity(alloc, self.len().saturating_add(right.len()))?;
+        append_copies(self.values.as_slice(), &mut values)?;
+        append_copies(right.values.as_slice(), &mut values)?;
+        Ok(Row::of(values))
+    }
+}
+
+// Appends a copy of each of the values.
+fn append_copies(values: &[Value], out: &mut Vec<Value>) -> Result<(), NoMemory>
+    ensures { OnOk result (out.new.items ≡ out.old.items ++ values.now) }
+{
+    'values: for value in values {
+        out.push(value.copy()?)?;
+    }
+    Ok(())
+}
