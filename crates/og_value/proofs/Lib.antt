@@ -1,2 +1,3 @@
+pub mod CellTexts
 pub mod RowLemmas
 pub mod WordLemmas

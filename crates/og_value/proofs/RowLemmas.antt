@@ -1,5 +1,5 @@
 -- When two values, and two rows, are the same on a day.
-use Rattle.std.proofs.Common.{◌≡◌, ◌↔◌, ◌&&◌, ◌+◌, ℕ, ℤ, pos, zero, suc, add-one, Bool, true, false, List, [], ◌∷◌, take, map, Option, Some, None, slice_get, refl, sym, ap, ap₂, ◌∙◌, subst, true≢false}
+use Rattle.std.proofs.Common.{◌≡◌, ◌↔◌, ◌&&◌, ◌+◌, ℕ, ℤ, pos, zero, suc, add-one, Bool, true, false, List, [], ◌∷◌, take, Some, slice_get, refl, sym, ap, ap₂, ◌∙◌, subst, true≢false}
 use Rattle.std.specs.Option.{option_map}
 use Rattle.std.proofs.lemmas.List.{take-map}
 use Rattle.std.proofs.lemmas.Option.{slice_get-map}
@@ -37,12 +37,14 @@ take_same [] ys i x y e f = cc
 take_same (a ∷ xs) [] i x y e f = cc
 take_same (a ∷ xs) (b ∷ ys) zero x y e f = (λ h. (refl, cc), λ h. cc)
 take_same (a ∷ xs) (b ∷ ys) (suc i) x y e f =
-    let rest = take_same xs ys i x y e f in
-    (λ h. let t = rest.0 (tail_same a b (take (suc i) xs) (take (suc i) ys) h) in (ap₂ (λ z zs. z ∷ zs) (head_same a b (take (suc i) xs) (take (suc i) ys) h) t.0, t.1),
-    λ h. ap₂ (λ z zs. z ∷ zs) (head_same a b (take i xs) (take i ys) h.0) (rest.1 (tail_same a b (take i xs) (take i ys) h.0, h.1)))
+    let rest = take_same xs ys i x y e f in (
+      λ h. let t = rest.0 (tail_same a b (take (suc i) xs) (take (suc i) ys) h) in (ap₂ (λ z zs. z ∷ zs) (head_same a b (take (suc i) xs) (take (suc i) ys) h) t.0, t.1),
+      λ h. ap₂ (λ z zs. z ∷ zs) (head_same a b (take i xs) (take i ys) h.0) (rest.1 (tail_same a b (take i xs) (take i ys) h.0, h.1)),
+    )
   where
     head_same : {B : Type 0} (c d : B) (us vs : List B) → c ∷ us ≡ d ∷ vs → c ≡ d
     head_same c d us vs h = cc
+
     tail_same : {B : Type 0} (c d : B) (us vs : List B) → c ∷ us ≡ d ∷ vs → us ≡ vs
     tail_same c d us vs h = cc
 
@@ -50,12 +52,14 @@ take_same (a ∷ xs) (b ∷ ys) (suc i) x y e f =
 rows_same : (vs ws : List Value) (i : ℕ) (v w : Value) (d : ℤ) → slice_get vs i ≡ Some v → slice_get ws i ≡ Some w
     → (row_at (take (suc i) vs) d ≡ row_at (take (suc i) ws) d) ↔ ((row_at (take i vs) d ≡ row_at (take i ws) d) × (value_at v d ≡ value_at w d))
 rows_same vs ws i v w d e f =
-    let same = take_same (row_at vs d) (row_at ws d) i (value_at v d) (value_at w d) (placed vs v e) (placed ws w f) in
-    (λ h. let t = same.0 (taken (suc i) vs ∙ h ∙ sym (taken (suc i) ws)) in (sym (taken i vs) ∙ t.0 ∙ taken i ws, t.1),
-    λ h. sym (taken (suc i) vs) ∙ same.1 (taken i vs ∙ h.0 ∙ sym (taken i ws), h.1) ∙ taken (suc i) ws)
+    let same = take_same (row_at vs d) (row_at ws d) i (value_at v d) (value_at w d) (placed vs v e) (placed ws w f) in (
+      λ h. let t = same.0 (taken (suc i) vs ∙ h ∙ sym (taken (suc i) ws)) in (sym (taken i vs) ∙ t.0 ∙ taken i ws, t.1),
+      λ h. sym (taken (suc i) vs) ∙ same.1 (taken i vs ∙ h.0 ∙ sym (taken i ws), h.1) ∙ taken (suc i) ws,
+    )
   where
     placed : (us : List Value) (u : Value) → slice_get us i ≡ Some u → slice_get (row_at us d) i ≡ Some (value_at u d)
     placed us u g = slice_get-map (λ x. value_at x d) us i ∙ ap (option_map (λ x. value_at x d)) g
+
     taken : (n : ℕ) (us : List Value) → take n (row_at us d) ≡ row_at (take n us) d
     taken n us = take-map (λ x. value_at x d) n us
 

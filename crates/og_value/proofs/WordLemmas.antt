@@ -1,5 +1,5 @@
 -- Words are ASCII.
-use Rattle.std.proofs.Common.{◌≡◌, ◌<◌, ◌≤◌, ◌+◌, ◌&&◌, ◌||◌, ◌==◌, ℕ, zero, suc, Bool, true, false, List, [], ◌∷◌, arith, slice_index, sym, ◌∙◌, true≢false, leb-true, eqb-true, refl}
+use Rattle.std.proofs.Common.{◌≡◌, ◌<◌, ◌&&◌, ◌||◌, ◌==◌, ℕ, zero, suc, Bool, true, false, List, [], ◌∷◌, arith, sym, true≢false, leb-true, eqb-true, refl}
 use Rattle.std.specs.List.{list_all}
 use Rattle.std.specs.Int.{is_in_range}
 use Rattle.std.specs.Str.{IsAscii, IsUtf8}
@@ -43,6 +43,7 @@ word_utf8 (b ∷ bs) h = IsUtf8-from_ascii (b ∷ bs) ascii
   where
     parts : (is_letter b ≡ true) × (list_all is_word_byte bs ≡ true)
     parts = both (is_letter b) (list_all is_word_byte bs) h
+
     ascii : IsAscii (b ∷ bs)
     ascii zero = letter_small b parts.0
     ascii (suc i) = bytes_ascii bs parts.1 i

@@ -1,5 +1,5 @@
 -- The order tells values and rows apart.
-use Rattle.std.proofs.Common.{◌≡◌, ◌<ℤ◌, ℤ, List, [], ◌∷◌, Bool, true, false, Ordering, Less, Equal, Greater, refl, sym, ap, ap₂, ◌∙◌}
+use Rattle.std.proofs.Common.{◌≡◌, ℤ, [], ◌∷◌, Bool, true, false, Ordering, Less, Equal, Greater, refl, sym, ap, ap₂, ◌∙◌}
 use Rattle.std.specs.Ordering.{int_cmp, nat_cmp, ordering_then}
 use Rattle.std.specs.Cmp.Lexicographic.{slice_cmp, texts_ties, same_text}
 use Rattle.og_base.specs.declared.range.FixedPeriod.{FixedPeriod}
@@ -8,7 +8,7 @@ use Rattle.og_base.proofs.SetLemmas.{days_exact}
 use Rattle.og_value.specs.contracts.value.FixedValueOrd.TheImpl as derived
 use Rattle.og_value.specs.declared.value.FixedValue.{FixedValue}
 use Rattle.og_value.specs.declared.value.FixedValue.TheVariants.{Int, Text, Date, Period}
-use Rattle.og_value.specs.Order.{period_order, value_order, row_order}
+use Rattle.og_value.specs.Order.{period_order, value_order}
 
 -- where two steps tie, both do
 then_equal : (a b : Ordering) → ordering_then a b ≡ Equal → (a ≡ Equal) × (b ≡ Equal)

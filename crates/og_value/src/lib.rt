@@ -13,10 +13,10 @@ mod text;
 mod value;
 
 pub use catalog::Catalog;
-
+pub use cell::{CellRefusal, one_text_a_cell, read_cell, write_cell, write_fixed};
 pub use kind::{Kind, What};
 pub use name::{Name, NameRefusal};
-pub use row::{FixedRow, Row};
+pub use row::{FixedRow, Row, order_of_rows};
 pub use schema::{Column, Schema};
 pub use term::{Cmp, Func, Pred, SetOp};
 pub use text::{Text, TextRefusal};

@@ -2,7 +2,10 @@
 ghost use Rattle.std.specs.Prelude.{◌≡◌, ◌<◌, ◌++◌, ℤ, length, slice_get, Some, IfOk, OnOk, List};
 ghost use Rattle.og_base.specs.Calendar.{IsRefDay};
 ghost use Rattle.og_base.specs.Ranges.{holds_day};
+ghost use Rattle.og_base.specs.Set.{IsExactOrder};
+ghost use Rattle.og_value.specs.Order.{row_order};
 ghost use Rattle.og_value.specs.Values.{row_at};
+ghost use Rattle.og_value.specs.declared.value.FixedValue as fixed;
 
 use crate::listed::Listed;
 use crate::value::{FixedValue, Value};
@@ -153,4 +156,68 @@ fn append_copies(values: &[Value], out: &mut Vec<Value>) -> Result<(), NoMemory>
         out.push(value.copy()?)?;
     }
     Ok(())
+}
+
+/// Rows of one day are ordered from the left by their values, and only rows that are the same tie.
+pub fn order_of_rows()
+    ensures order { (x y : List fixed.FixedValue) → ⟦<FixedRow as Ord>⟧.cmp x y ≡ row_order x y }
+    ensures exact { IsExactOrder ⟦<FixedRow as Ord>⟧.cmp }
+{}
+
+#[cfg(test)]
+mod tests {
+    use super::*;
+    use crate::cell::read_cell;
+    use crate::kind::Kind;
+    use og_base::{read_day, read_ref_day};
+    use std::test::Fail;
+
+    // A row of a number and a point.
+    fn row(alloc: Global, number: i64, point: &str) -> Result<Row, Fail> {
+        let mut values = Vec::new(alloc);
+        values.push(Value::Int(number))?;
+        values.push(read_cell(alloc, Kind::Date, point.as_bytes())?)?;
+        Ok(Row::of(values))
+    }
+
+    #[test]
+    fn two_rows_are_equal_on_the_days_on_which_all_values_are(rt: HostRuntime) -> Result<(), Fail> {
+        let first = row(rt.alloc(), 1, "now")?;
+        for (number, point, day, is_same) in [
+            (1, "now", "2020-01-01", true),
+            (1, "2020-05-01", "2020-05-01", true),
+            (1, "2020-05-01", "2020-05-02", false),
+            (2, "now", "2020-01-01", false),
+        ] {
+            let second = row(rt.alloc(), number, point)?;
+            let d = read_ref_day(day.as_bytes())?;
+            let days = first.same(rt.alloc(), &second)?;
+            assert_eq!(rt; days.contains(d), is_same, "{point} on {day}");
+        }
+        Ok(())
+    }
+
+    #[test]
+    fn a_glued_row_has_the_values_of_both(rt: HostRuntime) -> Result<(), Fail> {
+        let left = row(rt.alloc(), 1, "now")?;
+        let both = left.glue(rt.alloc(), &row(rt.alloc(), 2, "infinity")?)?;
+        let copy = both.copy(rt.alloc())?;
+        assert_eq!(rt; copy.len(), 4);
+        assert!(rt; *copy.value(2) == Value::Int(2));
+        let fixed = copy.at(rt.alloc(), read_ref_day(b"2020-05-01")?)?;
+        assert_eq!(rt; fixed.len(), 4);
+        assert!(rt; *fixed.value(3) == FixedValue::Date(read_day(b"infinity")?));
+        Ok(())
+    }
+
+    #[test]
+    fn a_front_of_a_row_comes_before_it(rt: HostRuntime) -> Result<(), Fail> {
+        let d = read_ref_day(b"2020-05-01")?;
+        let row = row(rt.alloc(), 1, "now")?.at(rt.alloc(), d)?;
+        let mut values = Vec::new(rt.alloc());
+        values.push(FixedValue::Int(1))?;
+        let front = FixedRow::of(values);
+        assert!(rt; front < row);
+        Ok(())
+    }
 }

@@ -1,4 +1,4 @@
-use Rattle.std.proofs.Common.{◌∙◌, sym}
+use Rattle.std.proofs.Common.{sym}
 use Rattle.og_value.proofs.WordLemmas.{word_utf8}
 use Rattle.og_value.proofs.name.Name.of.Goals as goal
 

@@ -1,8 +1,6 @@
-use Rattle.std.proofs.Common.{◌≡◌, ◌∙◌, ap, subst₂, sym}
-use Rattle.std.specs.Bool.{Decides}
+use Rattle.std.proofs.Common.{◌∙◌, ap}
 use Rattle.std.proofs.lemmas.Result.{IfOk-weaker}
 use Rattle.og_base.specs.Ranges.{holds_day}
-use Rattle.og_value.specs.Values.{value_at}
 use Rattle.og_value.proofs.RowLemmas.{points_same}
 use Rattle.og_value.proofs.value.Value.same.Goals as goal
 
