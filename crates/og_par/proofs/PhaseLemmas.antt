@@ -1,0 +1,38 @@
+-- What is made of lists of items: of one after the other, of one more item, and that it is one list.
+use Rattle.std.proofs.Common.{◌≡◌, ◌++◌, ◌+◌, ◌<◌, ℕ, List, [], ◌∷◌, length, get_or, take, refl, sym, ap, ap₂, ◌∙◌, subst}
+use Rattle.std.specs.Prelude.{Result, Ok, Err, Vec}
+use Rattle.std.specs.declared.alloc.Global.{Global}
+use Rattle.std.proofs.lemmas.List.{append_assoc, append-nil, take_more}
+use Rattle.og_base.specs.declared.memory.NoMemory.{NoMemory}
+use Rattle.og_par.specs.Phase.{MadeOfEach, AllowsOne, JoinsAll}
+
+module _ {T X : Type 0} (gives : T → List X → Type 0) where
+  -- of two lists of items, one after the other
+  pub MadeOfEach-append : (xs ys : List T) (a b : List X) → MadeOfEach gives xs a → MadeOfEach gives ys b → MadeOfEach gives (xs ++ ys) (a ++ b)
+  MadeOfEach-append [] ys a b h k = subst (λ l. MadeOfEach gives ys (l ++ b)) (sym h) k
+  MadeOfEach-append (x ∷ xs) ys a b h k =
+      (h.0, h.1 ++ b, h.2, MadeOfEach-append xs ys h.1 b h.3 k, ap (λ l. l ++ b) h.4 ∙ append_assoc h.0 h.1 b)
+
+  -- of one item
+  pub MadeOfEach-one : (x : T) (a : List X) → gives x a → MadeOfEach gives (x ∷ []) a
+  MadeOfEach-one x a h = (a, [], h, refl, sym (append-nil a))
+
+  -- of the items up to one more
+  pub MadeOfEach-more : (xs : List T) (i : ℕ) (x : T) (made before after : List X) → i < length xs → x ≡ get_or xs i x → after ≡ before ++ made → gives x made → MadeOfEach gives (take i xs) before → MadeOfEach gives (take (i + 1) xs) after
+  MadeOfEach-more xs i x made before after l is e h k =
+      let more = take_more xs i x l ∙ ap (λ y. take i xs ++ y ∷ []) (sym is) in
+      let all = MadeOfEach-append (take i xs) (x ∷ []) before made k (MadeOfEach-one x made h) in
+      subst (λ ys. MadeOfEach gives ys after) (sym more) (subst (MadeOfEach gives (take i xs ++ x ∷ [])) (sym e) all)
+
+  -- it is one list, where one list is allowed for each item
+  pub one_list : AllowsOne gives → (xs : List T) (a b : List X) → MadeOfEach gives xs a → MadeOfEach gives xs b → a ≡ b
+  one_list one [] a b h k = h ∙ sym k
+  one_list one (x ∷ xs) a b h k =
+      h.4 ∙ ap₂ (λ u v. u ++ v) (one x h.0 k.0 h.2 k.2) (one_list one xs h.1 k.1 h.3 k.3) ∙ sym k.4
+
+-- the parts and one more part
+pub JoinsAll-push : {X : Type 0} (parts : List (Result (Vec X Global) NoMemory)) (part : Result (Vec X Global) NoMemory) (v : Vec X Global) (before after : List X) → part ≡ Ok v → after ≡ before ++ v.items → JoinsAll parts before → JoinsAll (parts ++ part ∷ []) after
+JoinsAll-push {X} [] part v before after e is h = subst (λ p. JoinsAll (p ∷ []) after) (sym e) ([], refl, is ∙ ap (λ l. l ++ v.items) h ∙ sym (append-nil v.items))
+JoinsAll-push (Ok w ∷ parts) part v before after e is h =
+    (h.0 ++ v.items, JoinsAll-push parts part v h.0 (h.0 ++ v.items) e refl h.1, is ∙ ap (λ l. l ++ v.items) h.2 ∙ append_assoc w.items h.0 v.items)
+JoinsAll-push (Err x ∷ parts) part v before after e is h = h

@@ -1,0 +1,6 @@
+use Rattle.og_par.proofs.PhaseLemmas.{JoinsAll-push}
+use Rattle.og_par.proofs.phase.joined.Goals as goal
+
+pub parts-preserved : goal.parts-preserved
+parts-preserved g c =
+    JoinsAll-push c.parts.yielded c.in-Some.part c.in_ok-made.made c.parts.all.items _ c.in_ok-made.was c.in_ok-append.ensures.items c.parts.invariant

@@ -1,0 +1,209 @@
+//! A phase: the items of a slice cut into chunks, one for each worker.
+ghost use Rattle.std.specs.Prelude.{◌≡◌, ◌≤◌, ◌<◌, List, IfOk};
+ghost use Rattle.og_par.specs.Phase.{AllowsOne, MadeOfEach, JoinsAll};
+
+use crate::gate::Gate;
+use crate::piece::Piece;
+use og_base::NoMemory;
+use std::alloc::Global;
+use std::thread;
+use std::thread::Threads;
+
+/// For each item one list that the piece allows for it, these lists one after the other, in the
+/// order of the items. The items are cut into chunks of their number divided by `workers`, rounded
+/// up, the last one perhaps shorter, which std's `map_chunks` runs; without items there is no chunk
+/// and no call of `enter`. Refused only for want of memory.
+pub fn par_rows<H: Threads + Sync, T: Sync, P: Piece<T> + Sync, G: Gate + Sync>(
+    rt: &H,
+    alloc: Global,
+    workers: usize,
+    items: &[T],
+    piece: &P,
+    gate: &G,
+) -> Result<Vec<P::Out>, NoMemory>
+where
+    P::Out: Send + Drop,
+    requires least { 1 ≤ workers }
+    requires most { workers ≤ 64 }
+    ensures { IfOk result (λ v. MadeOfEach (P.gives piece.now) items.now v.items) }
+{
+    if items.is_empty() {
+        return Ok(Vec::new(alloc));
+    }
+    let size = items.len().div_ceil(workers);
+    let parts = thread::map_chunks(
+        rt,
+        alloc,
+        items,
+        size,
+        &|start: usize, chunk: &[T]| -> Result<Vec<P::Out>, NoMemory>
+            requires { 0 < size }
+            ensures { IfOk result (λ v. MadeOfEach (P.gives piece.entry.now) chunk.now v.items) }
+        { made_of_chunk(alloc, start / size, chunk, piece, gate) },
+    )?;
+    joined(alloc, parts)
+}
+
+// What is made of the items of one chunk, after the gate.
+fn made_of_chunk<T, P: Piece<T>, G: Gate>(
+    alloc: Global,
+    number: usize,
+    chunk: &[T],
+    piece: &P,
+    gate: &G,
+) -> Result<Vec<P::Out>, NoMemory>
+where
+    P::Out: Drop,
+    ensures { IfOk result (λ v. MadeOfEach (P.gives piece.now) chunk.now v.items) }
+{
+    gate.enter(number);
+    let mut out = Vec::new(alloc);
+    'items: for item in chunk {
+        piece.make(alloc, item, &mut out)?;
+    }
+    Ok(out)
+}
+
+// The parts one after the other, where each was made.
+fn joined<X: Drop>(alloc: Global, parts: Vec<Result<Vec<X>, NoMemory>>) -> Result<Vec<X>, NoMemory>
+    ensures { IfOk result (λ v. JoinsAll parts.items v.items) }
+{
+    let mut all = Vec::new(alloc);
+    'parts: for part in parts {
+        let mut made = part?;
+        all.append(&mut made)?;
+    }
+    Ok(all)
+}
+
+/// Where a piece allows one list for each item, what is made of the items is one list, for all
+/// numbers of workers and all gates.
+pub fn one_list_for_all_workers<T, P: Piece<T>>(piece: &P, items: &[T])
+    ensures { AllowsOne (P.gives piece.now) → (a b : List P.Out) →
+        MadeOfEach (P.gives piece.now) items.now a → MadeOfEach (P.gives piece.now) items.now b → a ≡ b }
+{
+    let _ = piece;
+    let _ = items;
+}
+
+#[cfg(test)]
+mod tests {
+    use super::*;
+    use crate::gate::OpenGate;
+    use std::sync::atomic::{AtomicBool, Ordering};
+
+    // Makes of an item the item and ten times the item.
+    struct TenTimes;
+
+    impl Piece<u16> for TenTimes {
+        ghost use Rattle.std.specs.Prelude.{◌≡◌, [], ◌∷◌, ◌*◌};
+
+        type Out = u32;
+
+        ghost gives = { λ piece x made. made ≡ x ∷ x * 10 ∷ [] };
+
+        fn make(&self, _alloc: Global, item: &u16, out: &mut Vec<u32>) -> Result<(), NoMemory> {
+            out.push(u32::from(*item))?;
+            out.push(u32::from(*item) * 10)?;
+            Ok(())
+        }
+    }
+
+    // Lets the first two chunks look for one another.
+    #[derive(Drop)]
+    struct Meeting {
+        first_is_in: AtomicBool,
+        second_is_in: AtomicBool,
+        first_saw: AtomicBool,
+        second_saw: AtomicBool,
+    }
+
+    impl Gate for Meeting {
+        fn enter(&self, piece: usize) {
+            if piece == 0 {
+                look(&self.first_is_in, &self.second_is_in, &self.first_saw);
+            } else if piece == 1 {
+                look(&self.second_is_in, &self.first_is_in, &self.second_saw);
+            }
+        }
+    }
+
+    // Says that this one is in, and looks whether the other is, at most 1,000,000,000 times.
+    fn look(own: &AtomicBool, other: &AtomicBool, saw: &AtomicBool) {
+        own.store(true, Ordering::SeqCst);
+        for _ in 0..1_000_000_000_u32 {
+            if other.load(Ordering::SeqCst) {
+                saw.store(true, Ordering::SeqCst);
+                return;
+            }
+        }
+    }
+
+    // The numbers from 1 up to that one.
+    fn numbers(alloc: Global, last: u16) -> Result<Vec<u16>, NoMemory> {
+        let mut items = Vec::new(alloc);
+        for number in 0..last {
+            items.push(number + 1)?;
+        }
+        Ok(items)
+    }
+
+    // Each item and ten times the item.
+    fn tens(alloc: Global, items: &[u16]) -> Result<Vec<u32>, NoMemory> {
+        let mut made = Vec::new(alloc);
+        for item in items {
+            made.push(u32::from(*item))?;
+            made.push(u32::from(*item) * 10)?;
+        }
+        Ok(made)
+    }
+
+    #[test]
+    fn two_workers_keep_the_order_of_the_items(rt: HostRuntime) -> Result<(), NoMemory> {
+        let items: [u16; 3] = [1, 2, 3];
+        let made = par_rows(&rt, rt.alloc(), 2, items.as_slice(), &TenTimes, &OpenGate)?;
+        assert_eq!(rt; made.as_slice(), [1, 10, 2, 20, 3, 30].as_slice());
+        Ok(())
+    }
+
+    #[test]
+    fn each_number_of_workers_makes_one_list(rt: HostRuntime) -> Result<(), NoMemory> {
+        for last in [0, 1, 5, 1000] {
+            let items = numbers(rt.alloc(), last)?;
+            let wanted = tens(rt.alloc(), items.as_slice())?;
+            for workers in [1, 2, 3, 64] {
+                let made = par_rows(
+                    &rt,
+                    rt.alloc(),
+                    workers,
+                    items.as_slice(),
+                    &TenTimes,
+                    &OpenGate,
+                )?;
+                assert_eq!(rt;
+                    made.as_slice(),
+                    wanted.as_slice(),
+                    "{last} items, {workers} workers"
+                );
+            }
+        }
+        Ok(())
+    }
+
+    #[test]
+    fn two_workers_run_at_the_same_time(rt: HostRuntime) -> Result<(), NoMemory> {
+        let meeting = Meeting {
+            first_is_in: AtomicBool::new(false),
+            second_is_in: AtomicBool::new(false),
+            first_saw: AtomicBool::new(false),
+            second_saw: AtomicBool::new(false),
+        };
+        let items = numbers(rt.alloc(), 1000)?;
+        let made = par_rows(&rt, rt.alloc(), 2, items.as_slice(), &TenTimes, &meeting)?;
+        let wanted = tens(rt.alloc(), items.as_slice())?;
+        assert_eq!(rt; made.as_slice(), wanted.as_slice());
+        assert!(rt; meeting.first_saw.load(Ordering::SeqCst));
+        assert!(rt; meeting.second_saw.load(Ordering::SeqCst));
+        Ok(())
+    }
+}
