@@ -54,6 +54,10 @@ module _ {F : Type 0} where
   pub IsWithin-append : (us vs ys : List F) → IsWithin us vs → IsWithin (us ++ ys) (vs ++ ys)
   IsWithin-append us vs ys h z c = ⊎_elim (λ d. Contains-append_left vs ys z (h z d)) (λ d. Contains-append_right vs ys z d) (Contains-append_cases us ys z c)
 
+  -- and with the same values in front
+  pub IsWithin-append_right : (xs us vs : List F) → IsWithin us vs → IsWithin (xs ++ us) (xs ++ vs)
+  IsWithin-append_right xs us vs h z c = ⊎_elim (λ d. Contains-append_left xs vs z d) (λ d. Contains-append_right xs vs z (h z d)) (Contains-append_cases xs us z c)
+
 module _ {F : Type 0} {cmp : F → F → Ordering} (exact : IsExact cmp) where
   -- what an exact order does not tell apart is the same
   pub eq_by_cmp-exact : (x y : F) → eq_by_cmp cmp x y ≡ true → x ≡ y
@@ -186,6 +190,13 @@ module _ {F : Type 0} {cmp : F → F → Ordering} (o : IsExactOrder cmp) where
       same_set (set_of cmp xs ++ ys) (xs ++ ys)
       (IsWithin-append (set_of cmp xs) xs ys (Contains-from_set_of cmp xs))
       (IsWithin-append xs (set_of cmp xs) ys (Contains-set_of o.exact xs))
+
+  -- and with other values in front
+  pub set_of-append_right : (xs ys : List F) → set_of cmp (xs ++ set_of cmp ys) ≡ set_of cmp (xs ++ ys)
+  set_of-append_right xs ys =
+      same_set (xs ++ set_of cmp ys) (xs ++ ys)
+      (IsWithin-append_right xs (set_of cmp ys) ys (Contains-from_set_of cmp ys))
+      (IsWithin-append_right xs ys (set_of cmp ys) (Contains-set_of o.exact ys))
 
   -- with one more value behind, a list and its set give one set
   pub set_of-push : (xs : List F) (x : F) → set_of cmp (set_of cmp xs ++ x ∷ []) ≡ set_of cmp (xs ++ x ∷ [])

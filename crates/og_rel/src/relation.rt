@@ -1,0 +1,149 @@
+//! Relations.
+ghost use Rattle.std.specs.Prelude.{◌≡◌, ◌≢◌, ◌++◌, ◌<◌, ◌≤◌, List, [], ◌∷◌, IfOk, OnOk, OnErr, length, slice_index_or};
+ghost use Rattle.std.specs.List.{All};
+ghost use Rattle.og_base.specs.Ranges.{Range};
+ghost use Rattle.og_rel.specs.Relations.{relation_at, stored};
+
+use crate::blocks::{AtDay, blocks_of};
+use crate::pair::{Pair, present_rows};
+use og_base::{Instant, NoMemory, OngoingRow, RefDay, RtSet, rising};
+use og_par::{Gate, par_rows};
+use std::alloc::Global;
+use std::marker::Model;
+use std::thread::Threads;
+
+/// A relation: rows, each with the days on which it is present, seen as the list of the rows with
+/// the ranges of their days. No set of days in it is empty.
+#[derive(Drop)]
+pub struct Rel<R> {
+    pairs: Vec<Pair<R>>,
+}
+
+impl<R> Model for Rel<R> {
+    ghost use Rattle.std.specs.Prelude.{List, map, [], ◌≢◌};
+    ghost use Rattle.std.specs.List.{All};
+    ghost use Rattle.og_base.specs.Ranges.{Range};
+
+    ghost Value = { List (R × List Range) };
+
+    ghost view = { λ rel. map (λ p. (p.row, p.days)) rel.pairs.items };
+
+    ghost invariant = { λ rel. All (λ p. p.days ≢ []) rel.pairs.items };
+}
+
+impl<R> Rel<R> {
+    /// The relation without rows. Takes no memory.
+    pub fn new(alloc: Global) -> Rel<R>
+        ensures { result ≡ [] }
+    {
+        Rel {
+            pairs: Vec::new(alloc),
+        }
+    }
+
+    /// Appends the row with its days, or nothing where there are none. Refused only for want of
+    /// memory, and then nothing has changed.
+    pub fn push(&mut self, row: R, days: RtSet) -> Result<(), NoMemory>
+    where
+        R: Drop,
+        ensures pushed { OnOk result (self.new ≡ self.old ++ stored row days) }
+        ensures refused { OnErr result (self.new ≡ self.old) }
+    {
+        if !days.is_empty() {
+            self.pairs.push(Pair { row, days })?;
+        }
+        Ok(())
+    }
+
+    /// Appends all rows of `more` with their days, in order. Refused only for want of memory, and
+    /// then nothing has changed.
+    pub fn append(&mut self, more: Rel<R>) -> Result<(), NoMemory>
+    where
+        R: Drop,
+        ensures appended { OnOk result (self.new ≡ self.old ++ more) }
+        ensures refused { OnErr result (self.new ≡ self.old) }
+    {
+        let mut more = more;
+        self.pairs.append(&mut more.pairs)?;
+        Ok(())
+    }
+
+    /// The number of rows.
+    pub fn len(&self) -> usize
+        ensures { result ≡ length self.now }
+    {
+        self.pairs.len()
+    }
+
+    /// The row at that place.
+    pub fn row(&self, i: usize) -> &R
+        requires { i < length self.now }
+        ensures { (p : R × List Range) → result.now ≡ (slice_index_or self.now i p).0 }
+    {
+        &self.pairs[i].row
+    }
+
+    /// The days of the row at that place.
+    pub fn days(&self, i: usize) -> &RtSet
+        requires { i < length self.now }
+        ensures { (p : R × List Range) → result.now ≡ (slice_index_or self.now i p).1 }
+    {
+        &self.pairs[i].days
+    }
+
+    /// Each row has a day.
+    pub fn some_days(&self)
+        ensures { All (λ p. p.1 ≢ []) self.now }
+    {
+        let _ = &self.pairs;
+    }
+}
+
+impl<R: OngoingRow> Rel<R> {
+    /// The same relation once more. Refused only for want of memory.
+    pub fn copy(&self) -> Result<Rel<R>, NoMemory>
+    where
+        R: Drop,
+        ensures { IfOk result (λ rel. rel ≡ self.now) }
+    {
+        let alloc = *self.pairs.allocator();
+        let mut pairs = Vec::new(alloc);
+        'pairs: for pair in &self.pairs {
+            pairs.push(pair.copy(alloc)?)?;
+        }
+        Ok(Rel { pairs })
+    }
+
+    /// The rising list of the rows that are present on the day, at the day, each once. Refused only
+    /// for want of memory.
+    pub fn at(&self, d: RefDay) -> Result<Vec<R::Fixed>, NoMemory>
+        ensures { IfOk result (λ rows. rows.items ≡ relation_at R.Fixed.cmp R.meaning self.now d) }
+    {
+        let alloc = *self.pairs.allocator();
+        let rows = present_rows(alloc, self.pairs.as_slice(), d)?;
+        rising(rows)
+    }
+
+    /// The list of `at`, made by several workers: each makes the lists of some blocks of rows.
+    /// Refused only for want of memory.
+    pub fn at_workers<H: Threads + Sync, G: Gate + Sync>(
+        &self,
+        rt: &H,
+        workers: usize,
+        d: RefDay,
+        gate: &G,
+    ) -> Result<Vec<R::Fixed>, NoMemory>
+    where
+        R: Sync,
+        R::Fixed: Send,
+        requires least { 1 ≤ workers }
+        requires most { workers ≤ 64 }
+        ensures { IfOk result (λ rows. rows.items ≡ relation_at R.Fixed.cmp R.meaning self.now d) }
+    {
+        let alloc = *self.pairs.allocator();
+        let blocks = blocks_of(alloc, self.pairs.as_slice())?;
+        let at_day = AtDay { day: d };
+        let rows = par_rows(rt, alloc, workers, blocks.as_slice(), &at_day, gate)?;
+        rising(rows)
+    }
+}
