@@ -147,3 +147,125 @@ impl<R: OngoingRow> Rel<R> {
         rising(rows)
     }
 }
+
+#[cfg(test)]
+mod tests {
+    use super::*;
+    use og_base::ExtDay;
+    use og_par::OpenGate;
+
+    // A row that is one number on every day.
+    #[derive(Clone, Copy, Debug)]
+    struct Number {
+        value: u32,
+    }
+
+    impl Instant for Number {
+        ghost use Rattle.std.proofs.lemmas.Map.Lookups.{exact_unsigned};
+
+        type Fixed = u32;
+
+        ghost meaning = { λ row d. row.value };
+
+        fn at(&self, _alloc: Global, _d: RefDay) -> Result<u32, NoMemory> {
+            Ok(self.value)
+        }
+
+        ghost exact = { exact_unsigned };
+    }
+
+    impl OngoingRow for Number {
+        fn same(&self, alloc: Global, other: &Number) -> Result<RtSet, NoMemory> {
+            if self.value == other.value {
+                RtSet::all(alloc)
+            } else {
+                Ok(RtSet::empty(alloc))
+            }
+        }
+
+        fn copy(&self, _alloc: Global) -> Result<Number, NoMemory> {
+            Ok(*self)
+        }
+    }
+
+    // All days but the last.
+    fn before_the_last_day(alloc: Global) -> Result<RtSet, NoMemory> {
+        RtSet::below(alloc, ExtDay::of(RefDay::LAST))
+    }
+
+    // The values of the rows that are present on the day, in the order of the relation.
+    fn values_on(alloc: Global, rel: &Rel<Number>, d: RefDay) -> Result<Vec<u32>, NoMemory> {
+        let mut values = Vec::new(alloc);
+        for i in 0..rel.len() {
+            if rel.days(i).contains(d) {
+                values.push(rel.row(i).value)?;
+            }
+        }
+        Ok(values)
+    }
+
+    #[test]
+    fn rows_pushed_twice_are_listed_once(rt: HostRuntime) -> Result<(), NoMemory> {
+        let mut rows = Rel::new(rt.alloc());
+        for _ in 0..2 {
+            rows.push(Number { value: 7 }, before_the_last_day(rt.alloc())?)?;
+            rows.push(Number { value: 3 }, RtSet::all(rt.alloc())?)?;
+            rows.push(Number { value: 5 }, RtSet::empty(rt.alloc()))?;
+        }
+        let copy = rows.copy()?;
+        let mut both = rows.copy()?;
+        both.append(rows.copy()?)?;
+        for (name, rel, len) in [("rows", &rows, 4), ("copy", &copy, 4), ("both", &both, 8)] {
+            assert_eq!(rt; rel.len(), len, "{name}");
+            for (day, wanted) in [
+                (RefDay::FIRST, [3, 7].as_slice()),
+                (RefDay::LAST, [3].as_slice()),
+            ] {
+                assert_eq!(rt; rel.at(day)?.as_slice(), wanted, "{name}");
+            }
+        }
+        let values = values_on(rt.alloc(), &both, RefDay::FIRST)?;
+        assert_eq!(rt; values.as_slice(), [7, 3, 7, 3, 7, 3, 7, 3].as_slice());
+        let values = values_on(rt.alloc(), &copy, RefDay::LAST)?;
+        assert_eq!(rt; values.as_slice(), [3, 3].as_slice());
+        Ok(())
+    }
+
+    // Each of 50 numbers 60 times, those from 40 on but for the last day: three blocks of rows.
+    fn many_rows(alloc: Global) -> Result<Rel<Number>, NoMemory> {
+        let mut rows = Rel::new(alloc);
+        for i in 0..3000_u32 {
+            let value = i % 50;
+            let days = if value < 40 {
+                RtSet::all(alloc)?
+            } else {
+                before_the_last_day(alloc)?
+            };
+            rows.push(Number { value }, days)?;
+        }
+        Ok(rows)
+    }
+
+    // The numbers below that one.
+    fn below(alloc: Global, end: u32) -> Result<Vec<u32>, NoMemory> {
+        let mut numbers = Vec::new(alloc);
+        for number in 0..end {
+            numbers.push(number)?;
+        }
+        Ok(numbers)
+    }
+
+    #[test]
+    fn each_number_of_workers_makes_the_list_of_the_day(rt: HostRuntime) -> Result<(), NoMemory> {
+        let rows = many_rows(rt.alloc())?;
+        for (day, end) in [(RefDay::FIRST, 50), (RefDay::LAST, 40)] {
+            let wanted = below(rt.alloc(), end)?;
+            assert_eq!(rt; rows.at(day)?.as_slice(), wanted.as_slice());
+            for workers in [1, 2, 64] {
+                let made = rows.at_workers(&rt, workers, day, &OpenGate)?;
+                assert_eq!(rt; made.as_slice(), wanted.as_slice(), "{workers} workers");
+            }
+        }
+        Ok(())
+    }
+}
