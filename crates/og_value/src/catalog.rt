@@ -1,5 +1,6 @@
 //! What a crate above must know of the names there are.
-ghost use Rattle.std.specs.Prelude.{◌≡◌, Option, None, Some, List, ℕ, IfSome, IfNone};
+ghost use Rattle.std.specs.Prelude.{◌≡◌, Option, List, ℕ};
+ghost use Rattle.std.specs.Option.{option_copied, option_map};
 ghost use Rattle.og_value.specs.declared.kind.What.{What};
 ghost use Rattle.og_value.specs.declared.schema.Column.{Column};
 
@@ -13,11 +14,9 @@ pub trait Catalog {
 
     /// What the name stands for, or none exactly where it is unknown.
     fn what(&self, name: &Name) -> Option<What>
-        ensures found { IfSome result (λ w. IfSome (known self.now name.now) (λ k. w ≡ k.0)) }
-        ensures unknown { IfNone result (known self.now name.now ≡ None) };
+        ensures { result ≡ option_map (λ k. k.0) (known self.now name.now) };
 
     /// The schema of the name, or none exactly where it is unknown.
     fn schema(&self, name: &Name) -> Option<&Schema>
-        ensures found { IfSome result (λ s. IfSome (known self.now name.now) (λ k. s.now ≡ k.1)) }
-        ensures unknown { IfNone result (known self.now name.now ≡ None) };
+        ensures { option_copied result ≡ option_map (λ k. k.1) (known self.now name.now) };
 }

@@ -131,9 +131,7 @@ impl OngoingRow for Row {
     }
 
     fn copy(&self, alloc: Global) -> Result<Row, NoMemory> {
-        let mut values = Vec::with_capacity(alloc, self.len())?;
-        append_copies(self.values.as_slice(), &mut values)?;
-        Ok(Row::of(values))
+        joined(alloc, self.values.as_slice(), &[])
     }
 }
 
@@ -141,11 +139,18 @@ impl Glue for Row {
     ghost glued = { λ left right. left ++ right };
 
     fn glue(&self, alloc: Global, right: &Row) -> Result<Row, NoMemory> {
-        let mut values = Vec::with_capacity(alloc, self.len().saturating_add(right.len()))?;
-        append_copies(self.values.as_slice(), &mut values)?;
-        append_copies(right.values.as_slice(), &mut values)?;
-        Ok(Row::of(values))
+        joined(alloc, self.values.as_slice(), right.values.as_slice())
     }
+}
+
+// The row of copies of both lists of values, one after the other, with room for them taken at once.
+fn joined(alloc: Global, first: &[Value], second: &[Value]) -> Result<Row, NoMemory>
+    ensures { IfOk result (λ r. r ≡ first.now ++ second.now) }
+{
+    let mut values = Vec::with_capacity(alloc, first.len().saturating_add(second.len()))?;
+    append_copies(first, &mut values)?;
+    append_copies(second, &mut values)?;
+    Ok(Row::of(values))
 }
 
 // Appends a copy of each of the values.
