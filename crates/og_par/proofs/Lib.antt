@@ -1,2 +1,2 @@
-pub mod ChunkLemmas
+pub mod PartLemmas
 pub mod PhaseLemmas

@@ -1,10 +1,7 @@
 -- What is made of lists of items: of one after the other, of one more item, and that it is one list.
 use Rattle.std.proofs.Common.{◌≡◌, ◌++◌, ◌+◌, ◌<◌, ℕ, List, [], ◌∷◌, length, get_or, take, refl, sym, ap, ap₂, ◌∙◌, subst}
-use Rattle.std.specs.Prelude.{Result, Ok, Err, Vec}
-use Rattle.std.specs.declared.alloc.Global.{Global}
 use Rattle.std.proofs.lemmas.List.{append_assoc, append-nil, take_more}
-use Rattle.og_base.specs.declared.memory.NoMemory.{NoMemory}
-use Rattle.og_par.specs.Phase.{MadeOfEach, AllowsOne, JoinsAll}
+use Rattle.og_par.specs.Phase.{MadeOfEach, AllowsOne}
 
 module _ {T X : Type 0} (gives : T → List X → Type 0) where
   -- of two lists of items, one after the other
@@ -29,10 +26,3 @@ module _ {T X : Type 0} (gives : T → List X → Type 0) where
   one_list one [] a b h k = h ∙ sym k
   one_list one (x ∷ xs) a b h k =
       h.4 ∙ ap₂ (λ u v. u ++ v) (one x h.0 k.0 h.2 k.2) (one_list one xs h.1 k.1 h.3 k.3) ∙ sym k.4
-
--- the parts and one more part
-pub JoinsAll-push : {X : Type 0} (parts : List (Result (Vec X Global) NoMemory)) (part : Result (Vec X Global) NoMemory) (v : Vec X Global) (before after : List X) → part ≡ Ok v → after ≡ before ++ v.items → JoinsAll parts before → JoinsAll (parts ++ part ∷ []) after
-JoinsAll-push {X} [] part v before after e is h = subst (λ p. JoinsAll (p ∷ []) after) (sym e) ([], refl, is ∙ ap (λ l. l ++ v.items) h ∙ sym (append-nil v.items))
-JoinsAll-push (Ok w ∷ parts) part v before after e is h =
-    (h.0 ++ v.items, JoinsAll-push parts part v h.0 (h.0 ++ v.items) e refl h.1, is ∙ ap (λ l. l ++ v.items) h.2 ∙ append_assoc w.items h.0 v.items)
-JoinsAll-push (Err x ∷ parts) part v before after e is h = h

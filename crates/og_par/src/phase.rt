@@ -1,6 +1,7 @@
 //! A phase: the items of a slice cut into chunks, one for each worker.
 ghost use Rattle.std.specs.Prelude.{◌≡◌, ◌≤◌, ◌<◌, List, IfOk};
-ghost use Rattle.og_par.specs.Phase.{AllowsOne, MadeOfEach, JoinsAll};
+ghost use Rattle.og_par.specs.Phase.{AllowsOne, MadeOfEach};
+ghost use Rattle.og_par.specs.Parts.{JoinsAll};
 
 use crate::gate::Gate;
 use crate::piece::Piece;

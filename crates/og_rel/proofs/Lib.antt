@@ -1,2 +1,3 @@
+pub mod BlockLemmas
 pub mod PairLemmas
 pub mod PresentLemmas

@@ -1,5 +1,5 @@
 -- The rows that are present on a day: of relations one after the other, of one more row, and whether a test holds of some of them.
-use Rattle.std.proofs.Common.{◌≡◌, ◌++◌, ◌+◌, ◌<◌, ◌||◌, ◌&&◌, ℕ, ℤ, Bool, true, false, List, [], ◌∷◌, length, get_or, take, if◌then◌else◌, Ordering, refl, sym, ap, ◌∙◌, subst}
+use Rattle.std.proofs.Common.{◌≡◌, ◌++◌, ◌+◌, ◌<◌, ◌||◌, ◌&&◌, ℕ, ℤ, Bool, true, false, List, [], ◌∷◌, length, get_or, take, if◌then◌else◌, Ordering, refl, sym, ap, ap₂, ◌∙◌}
 use Rattle.std.specs.List.{list_any}
 use Rattle.std.proofs.lemmas.List.{take_more}
 use Rattle.og_base.specs.Ranges.{Range, holds_day}
@@ -7,6 +7,11 @@ use Rattle.og_base.specs.Set.{IsExactOrder, set_of}
 use Rattle.og_base.proofs.SetLemmas.{set_of-append, set_of-append_right}
 use Rattle.og_base.proofs.SetMembers.{list_any-set_of}
 use Rattle.og_rel.specs.Relations.{present, relation_at, stored}
+
+-- the row and the days at a place are the pair at that place
+pub at_place : {R : Type 0} (rel : List (R × List Range)) (i : ℕ) (row : R) (days : List Range)
+    → ((p : R × List Range) → row ≡ (get_or rel i p).0) → ((p : R × List Range) → days ≡ (get_or rel i p).1) → (row, days) ≡ get_or rel i (row, days)
+at_place rel i row days row_is days_is = ap₂ (λ r ds. (r, ds)) (row_is (row, days)) (days_is (row, days))
 
 module _ {R F : Type 0} (at : R → ℤ → F) where
   -- of two relations, one after the other
@@ -45,13 +50,16 @@ module _ {R F : Type 0} (at : R → ℤ → F) where
       with_first true e = ap (λ b. t (at p.0 d) || b) e
       with_first false e = e
 
-  -- the step of a loop over a relation that makes f of the rows of each day, where f of lists one after the other is f of each
+  -- the step of a loop over the places of a relation that makes f of the rows of a day, where f of lists one after the other is f of each
   pub made_more : (f : List F → List F) → ((xs ys : List F) → f (xs ++ ys) ≡ f xs ++ f ys)
-      → (rel : List (R × List Range)) (i : ℕ) (p : R × List Range) (old new : List (R × List Range)) (d : ℤ) → i < length rel → p ≡ get_or rel i p
-      → present at old d ≡ f (present at (take i rel) d) → present at new d ≡ present at old d ++ f (present at (p ∷ []) d)
+      → (rel : List (R × List Range)) (i : ℕ) (row : R) (days : List Range) (old new : List (R × List Range)) (d : ℤ) → i < length rel
+      → ((p : R × List Range) → row ≡ (get_or rel i p).0) → ((p : R × List Range) → days ≡ (get_or rel i p).1)
+      → present at old d ≡ f (present at (take i rel) d) → present at new d ≡ present at old d ++ f (present at ((row, days) ∷ []) d)
       → present at new d ≡ f (present at (take (i + 1) rel) d)
-  made_more f along rel i p old new d l e before step =
-      step ∙ ap (λ rows. rows ++ f (present at (p ∷ []) d)) before ∙ sym (along (present at (take i rel) d) (present at (p ∷ []) d)) ∙ ap f (sym (present-more rel i p d l e))
+  made_more f along rel i row days old new d l row_is days_is before step =
+      let p : R × List Range = (row, days) in
+      let more = present-more rel i p d l (at_place rel i row days row_is days_is) in
+      step ∙ ap (λ rows. rows ++ f (present at (p ∷ []) d)) before ∙ sym (along (present at (take i rel) d) (present at (p ∷ []) d)) ∙ ap f (sym more)
 
 module _ {R F : Type 0} {cmp : F → F → Ordering} (o : IsExactOrder cmp) (at : R → ℤ → F) where
   -- two relations, one after the other, are at a day the set of both at that day

@@ -14,17 +14,11 @@ const BLOCK: usize = 1024;
 pub(crate) fn blocks_of<'a, X>(alloc: Global, items: &'a [X]) -> Result<Vec<&'a [X]>, NoMemory>
     ensures { IfOk result (λ v. flat_map (λ b. b.now) v.items ≡ items.now) }
 {
-    let mut blocks = Vec::new(alloc);
-    let mut rest = items;
-    'cut: while !rest.is_empty() {
-        let (block, after) = rest.split_at(rest.len().min(BLOCK));
-        blocks.push(block)?;
-        rest = after;
-    }
+    let blocks: Vec<&[X]> = items.chunks(BLOCK).collect(alloc)?;
     Ok(blocks)
 }
 
-/// Makes of a block of pairs its rows of a day.
+// Makes of a block of pairs the rising list of its rows of a day.
 #[derive(Clone, Copy, Debug)]
 pub(crate) struct AtDay {
     pub(crate) day: RefDay,

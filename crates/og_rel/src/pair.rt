@@ -5,7 +5,7 @@ ghost use Rattle.og_rel.specs.Pairs.{present_of_pairs};
 use og_base::{Instant, NoMemory, OngoingRow, RefDay, RtSet};
 use std::alloc::Global;
 
-/// A row and the days on which it is present.
+// A row and the days on which it is present.
 #[derive(Drop)]
 pub(crate) struct Pair<R> {
     pub(crate) row: R,

@@ -1,4 +1,4 @@
-use Rattle.og_par.proofs.PhaseLemmas.{JoinsAll-push}
+use Rattle.og_par.proofs.PartLemmas.{JoinsAll-push}
 use Rattle.og_par.proofs.phase.joined.Goals as goal
 
 pub parts-preserved : goal.parts-preserved

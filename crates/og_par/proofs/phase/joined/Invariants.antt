@@ -1,4 +1,4 @@
-use Rattle.og_par.specs.Phase.{JoinsAll}
+use Rattle.og_par.specs.Parts.{JoinsAll}
 use Rattle.og_par.proofs.phase.joined.Given as goal
 
 abbrev pub invariant-parts : goal.invariant-parts
