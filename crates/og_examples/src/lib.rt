@@ -1,9 +1,10 @@
-//! Whole runs, from the words and the bytes in to the bytes and the status out; and the traits of
-//! rows at small types.
+//! Whole runs, from the words and the bytes in to the bytes and the status out; relations of rows of
+//! values; and the traits of rows and catalogs at small types.
 #![tactic(auto)]
 
 #[cfg(test)]
 mod answers;
+pub mod catalog;
 #[cfg(test)]
 mod devices;
 #[cfg(test)]
@@ -14,6 +15,8 @@ mod limits;
 mod memory;
 #[cfg(test)]
 mod prints;
+#[cfg(test)]
+mod relations;
 pub mod rows;
 #[cfg(test)]
 mod runs;

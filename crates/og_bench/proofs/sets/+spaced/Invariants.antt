@@ -1,4 +1,4 @@
-use Rattle.og_bench.proofs.+spaced.Given as goal
+use Rattle.og_bench.proofs.sets.+spaced.Given as goal
 
 abbrev pub decreases-spaced : goal.decreases-spaced
 decreases-spaced l = l.count

@@ -1,0 +1,61 @@
+//! Relations of rows of values.
+use og_base::{NoMemory, RtSet, read_ref_day};
+use og_par::OpenGate;
+use og_rel::Rel;
+use og_time::{OngoingPoint, read_point};
+use og_value::{FixedRow, Row, Value, write_fixed};
+use std::alloc::Global;
+use std::test::Fail;
+
+// 4,096 rows on all days, of a number below 1,000 and the point.
+fn numbered(alloc: Global, point: OngoingPoint) -> Result<Rel<Row>, NoMemory> {
+    let mut rel = Rel::new(alloc);
+    for i in 0..4096_i64 {
+        let mut values = Vec::with_capacity(alloc, 2)?;
+        values.push(Value::Int(i % 1000))?;
+        values.push(Value::Point(point))?;
+        rel.push(Row::of(values), RtSet::all(alloc)?)?;
+    }
+    Ok(rel)
+}
+
+// The cells of the rows, each row on a line.
+fn lines(alloc: Global, rows: &[FixedRow]) -> Result<Vec<u8>, NoMemory> {
+    let mut out = Vec::new(alloc);
+    for row in rows {
+        for i in 0..row.len() {
+            write_fixed(row.value(i), &mut out)?;
+            out.push(b',')?;
+        }
+        out.push(b'\n')?;
+    }
+    Ok(out)
+}
+
+// The lines that are wanted: each number below 1,000, and the day.
+fn wanted(alloc: Global) -> Result<String, NoMemory> {
+    let mut out = String::new(alloc);
+    for i in 0..1000 {
+        let line = format!(in alloc; "{i},2020-05-01,\n")?;
+        out.push_str(line.as_str())?;
+    }
+    Ok(out)
+}
+
+#[test]
+fn a_relation_is_one_list_for_all_numbers_of_workers(rt: HostRuntime) -> Result<(), Fail> {
+    let rel = numbered(rt.alloc(), read_point(b"now")?)?;
+    let day = read_ref_day(b"2020-05-01")?;
+    let wanted = wanted(rt.alloc())?;
+    let rows = rel.at(day)?;
+    assert_eq!(rt;
+        lines(rt.alloc(), rows.as_slice())?.as_slice(),
+        wanted.as_bytes()
+    );
+    for workers in [1, 2, 64] {
+        let rows = rel.at_workers(&rt, workers, day, &OpenGate)?;
+        let lines = lines(rt.alloc(), rows.as_slice())?;
+        assert_eq!(rt; lines.as_slice(), wanted.as_bytes(), "{workers} workers");
+    }
+    Ok(())
+}
