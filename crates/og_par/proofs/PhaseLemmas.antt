@@ -1,6 +1,8 @@
--- What is made of lists of items: of one after the other, of one more item, and that it is one list.
+-- What is made of lists of items: of one after the other, of one more item, that it is one list, and what a function of lists shows of it.
 use Rattle.std.proofs.Common.{◌≡◌, ◌++◌, ◌+◌, ◌<◌, ℕ, List, [], ◌∷◌, length, get_or, take, refl, sym, ap, ap₂, ◌∙◌, subst}
 use Rattle.std.proofs.lemmas.List.{append_assoc, append-nil, take_more}
+use Rattle.std.specs.List.{flat_map}
+use Rattle.std.proofs.lemmas.List.Concat.{flat_map-cons}
 use Rattle.og_par.specs.Phase.{MadeOfEach, AllowsOne}
 
 module _ {T X : Type 0} (gives : T → List X → Type 0) where
@@ -26,3 +28,10 @@ module _ {T X : Type 0} (gives : T → List X → Type 0) where
   one_list one [] a b h k = h ∙ sym k
   one_list one (x ∷ xs) a b h k =
       h.4 ∙ ap₂ (λ u v. u ++ v) (one x h.0 k.0 h.2 k.2) (one_list one xs h.1 k.1 h.3 k.3) ∙ sym k.4
+
+  -- what h shows of it, where h of lists one after the other is h of each, is f of each item, one after the other
+  pub MadeOfEach-shown : {Y : Type 0} (h : List X → List Y) (f : T → List Y) → h [] ≡ [] → ((a b : List X) → h (a ++ b) ≡ h a ++ h b)
+      → ((x : T) (a : List X) → gives x a → h a ≡ f x) → (xs : List T) (made : List X) → MadeOfEach gives xs made → h made ≡ flat_map f xs
+  MadeOfEach-shown h f none along one [] made m = ap h m ∙ none
+  MadeOfEach-shown h f none along one (x ∷ xs) made m =
+      ap h m.4 ∙ along m.0 m.1 ∙ ap₂ (λ u v. u ++ v) (one x m.0 m.2) (MadeOfEach-shown h f none along one xs m.1 m.3) ∙ sym (flat_map-cons f x xs)
