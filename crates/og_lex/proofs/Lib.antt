@@ -1,0 +1,9 @@
+pub mod Fronts
+pub mod Lexing
+pub mod Meanings
+pub mod Numbers
+pub mod Quotes
+pub mod Runs
+pub mod Scripts
+pub mod Symbols
+pub mod Tokens

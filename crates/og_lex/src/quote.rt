@@ -1,0 +1,78 @@
+//! Texts between quotes.
+ghost use Rattle.std.specs.Prelude.{◌≡◌, ◌+◌, ◌<◌, IfSome, IfOk, false, length};
+ghost use Rattle.std.specs.Str.{is_utf8};
+ghost use Rattle.og_lex.specs.Front as spec;
+ghost use Rattle.og_lex.specs.Grammar.{HasText, IsTextAt};
+
+use crate::front::{Fault, Front};
+use crate::run::byte_at;
+use crate::token::{Token, TokenKind};
+use og_base::NoMemory;
+use std::alloc::Global;
+
+// The text at the front, by the bytes after its first quote.
+#[tactic(auto, unfolding(crate::specs::Front::text))]
+pub fn text(z: &[u8]) -> Front
+    ensures value { result ≡ spec.text z.now }
+    ensures within { spec.IsWithin result (length z.now + 1) }
+{
+    let Some(len) = closing(z) else {
+        return Front::Bad(Fault::OpenText);
+    };
+    let (inner, _) = z.split_at(len);
+    if is_text(inner) {
+        Front::Piece(TokenKind::Text, len + 2)
+    } else {
+        Front::Bad(Fault::BadByte)
+    }
+}
+
+// Whether the bytes are UTF-8.
+fn is_text(z: &[u8]) -> bool
+    ensures { result ≡ is_utf8 z.now }
+{
+    std::str::from_utf8(z).is_ok()
+}
+
+// The place of the closing quote: the first quote that is none of a doubled pair.
+fn closing(mut z: &[u8]) -> Option<usize>
+    ensures value { result ≡ spec.closing false 0 z.entry.now }
+    ensures within { IfSome result (λ end. end < length z.entry.now) }
+{
+    let mut is_second = false;
+    let mut at = 0;
+    'bytes: while let [b, rest @ ..] = z {
+        if !is_second && *b == b'\'' && byte_at(rest, 0) != b'\'' {
+            return Some(at);
+        }
+        is_second = !is_second && *b == b'\'';
+        at += 1;
+        z = rest;
+    }
+    None
+}
+
+/// The content of a text token of the script, with each doubled quote made single.
+pub fn text_of(alloc: Global, script: &[u8], token: &Token) -> Result<Vec<u8>, NoMemory>
+    requires { HasText script.now token.now }
+    ensures content { IfOk result (λ content. IsTextAt script.now token.now content.items) }
+{
+    let inner = &script[token.start + 1..token.end - 1];
+    single(alloc, inner)
+}
+
+// The bytes without the second of each two quotes.
+fn single(alloc: Global, mut z: &[u8]) -> Result<Vec<u8>, NoMemory>
+    ensures { IfOk result (λ content. content.items ≡ spec.single_quotes false z.entry.now) }
+{
+    let mut content = Vec::new(alloc);
+    let mut is_second = false;
+    'bytes: while let [b, rest @ ..] = z {
+        if !is_second {
+            content.push(*b)?;
+        }
+        is_second = !is_second && *b == b'\'';
+        z = rest;
+    }
+    Ok(content)
+}

@@ -1,0 +1,57 @@
+//! Why a script has no tokens.
+ghost use Rattle.std.specs.Prelude.{◌≡◌};
+ghost use Rattle.og_lex.specs.Front as spec;
+
+use crate::front::Fault;
+use og_base::NoMemory;
+use std::alloc::{AllocError, AllocFailed};
+use thiserror::Error;
+
+/// Why a script has no tokens: its first lexical fault, with the place of it in bytes from 0, or
+/// want of memory.
+#[derive(Debug, Drop, Error)]
+pub enum LexRefusal {
+    /// No token begins here, a text is not UTF-8, or `-` stands before neither a digit nor `-`.
+    #[error("no token at {offset}")]
+    BadByte { offset: usize },
+    /// The text that begins here has no closing quote.
+    #[error("open text at {offset}")]
+    OpenText { offset: usize },
+    /// The number that begins here has a value outside 64 bits with a sign.
+    #[error("number out of range at {offset}")]
+    NumberRange { offset: usize },
+    /// Memory ran out.
+    #[error("want of memory")]
+    NoMemory,
+}
+
+impl From<AllocError> for LexRefusal {
+    ghost use Rattle.og_lex.specs.declared.refusal.LexRefusal.{LexRefusal};
+
+    ghost from_gives = { λ _ e. e ≡ LexRefusal.NoMemory };
+
+    fn from(_: AllocError) -> LexRefusal {
+        LexRefusal::NoMemory
+    }
+}
+
+impl<T: Drop> From<AllocFailed<T>> for LexRefusal {
+    ghost use Rattle.og_lex.specs.declared.refusal.LexRefusal.{LexRefusal};
+
+    ghost from_gives = { λ _ e. e ≡ LexRefusal.NoMemory };
+
+    fn from(_: AllocFailed<T>) -> LexRefusal {
+        LexRefusal::NoMemory
+    }
+}
+
+// The refusal of a fault at a place.
+pub fn refusal_at(fault: Fault, offset: usize) -> LexRefusal
+    ensures { result ≡ spec.refusal_at fault offset }
+{
+    match fault {
+        Fault::BadByte => LexRefusal::BadByte { offset },
+        Fault::OpenText => LexRefusal::OpenText { offset },
+        Fault::NumberRange => LexRefusal::NumberRange { offset },
+    }
+}
