@@ -55,3 +55,53 @@ fn take_piece(z: &[u8], at: usize, tokens: &mut Vec<Token>) -> Result<usize, Lex
         Front::Bad(fault) => Err(refusal_at(fault, at)),
     }
 }
+
+#[cfg(test)]
+mod tests {
+    use super::*;
+    use crate::symbol::Symbol;
+    use crate::token::TokenKind;
+    use std::test::Fail;
+
+    #[test]
+    fn each_token_has_its_place_in_the_script(rt: HostRuntime) -> Result<(), Fail> {
+        let script = b"_x\r\n-5 --\xff'\n,'it''s'<>9223372036854775807-9223372036854775808 < >=--";
+        let tokens = lex(rt.alloc(), script.as_slice())?;
+        for (place, kind, start, end) in [
+            (0, TokenKind::Word, 0, 2),
+            (1, TokenKind::Number(-5), 4, 6),
+            (2, TokenKind::Sym(Symbol::Comma), 12, 13),
+            (3, TokenKind::Text, 13, 20),
+            (4, TokenKind::Sym(Symbol::NotEqual), 20, 22),
+            (5, TokenKind::Number(i64::MAX), 22, 41),
+            (6, TokenKind::Number(i64::MIN), 41, 61),
+            (7, TokenKind::Sym(Symbol::Less), 62, 63),
+            (8, TokenKind::Sym(Symbol::GreaterEqual), 64, 66),
+        ] {
+            assert_eq!(rt; tokens.get(place), Some(&Token { kind, start, end }));
+        }
+        assert_eq!(rt; tokens.len(), 9);
+        Ok(())
+    }
+
+    #[test]
+    fn a_script_is_refused_at_its_first_fault(rt: HostRuntime) {
+        for (script, refusal) in [
+            (b"TABLES #;".as_slice(), LexRefusal::BadByte { offset: 7 }),
+            (b"x -".as_slice(), LexRefusal::BadByte { offset: 2 }),
+            (b"- 5".as_slice(), LexRefusal::BadByte { offset: 0 }),
+            (b"'\xff' '".as_slice(), LexRefusal::BadByte { offset: 0 }),
+            (b"DROP 'a''".as_slice(), LexRefusal::OpenText { offset: 5 }),
+            (
+                b"9223372036854775808".as_slice(),
+                LexRefusal::NumberRange { offset: 0 },
+            ),
+            (
+                b"; -9223372036854775809".as_slice(),
+                LexRefusal::NumberRange { offset: 2 },
+            ),
+        ] {
+            assert_eq!(rt; lex(rt.alloc(), script).err(), Some(refusal));
+        }
+    }
+}

@@ -9,7 +9,7 @@ use thiserror::Error;
 
 /// Why a script has no tokens: its first lexical fault, with the place of it in bytes from 0, or
 /// want of memory.
-#[derive(Debug, Drop, Error)]
+#[derive(Clone, Copy, Debug, PartialEq, Eq, Error)]
 pub enum LexRefusal {
     /// No token begins here, a text is not UTF-8, or `-` stands before neither a digit nor `-`.
     #[error("no token at {offset}")]
