@@ -72,6 +72,9 @@ quoted-same xs ys e =
     let lens : length (doubled xs) ≡ length (doubled ys) = omega (arith, ap length tails, length-append (doubled xs) (39 ∷ []), length-append (doubled ys) (39 ∷ [])) in
     doubled-same xs ys (sym (take-joined (doubled xs) (39 ∷ [])) ∙ (ap₂ (λ n z. take n z) lens tails ∙ take-joined (doubled ys) (39 ∷ [])))
 
+pub one_content : (script : List ℕ) (token : Token) (content other : List ℕ) → IsTextAt script token content → IsTextAt script token other → content ≡ other
+one_content script token content other h k = quoted-same content other (sym h.between ∙ k.between)
+
 pub content-utf8 : (script : List ℕ) (token : Token) (content : List ℕ) → IsTokenOf script token → token.kind ≡ kinds.Text → IsTextAt script token content → IsUtf8 content
 content-utf8 script token content h e is =
     let text = subst (λ kind. IsToken kind (bytes_of script token) (drop token.end script)) e h.same in

@@ -66,8 +66,8 @@ IsToken (kinds.Number n) text rest = IsNumber n text rest
 IsToken kinds.Text text rest = (content : List ℕ) × IsQuoted content text rest × IsUtf8 content
 IsToken (kinds.Sym symbol) text rest = IsSymbol symbol text rest
 
--- From one place to another, with the bytes after each of them: these tokens stand between them, beside
--- blanks and comments.
+-- from one place to another, each with the bytes that follow it: no tokens where the two are one place, and
+-- else a blank byte, a comment or a token, and what comes after it
 pub data Reads : ℕ → List ℕ → List Token → ℕ → List ℕ → Type 0 where
   stops : (at : ℕ) (z : List ℕ) → Reads at z [] at z
   past_blank : (at b : ℕ) (z : List ℕ) (tokens : List Token) (end : ℕ) (rest : List ℕ)

@@ -21,10 +21,11 @@ pub fn tokens_or_a_fault()
 {}
 
 /// The spans of a script's tokens rise and lie within it, and each token is of its kind there. A
-/// text token has a content, which is UTF-8.
+/// text token has one content, which is UTF-8.
 pub fn tokens_of_a_script()
     ensures rising { (script : List ℕ) (tokens : List Token) → IsLexed script tokens → Rise 0 tokens (length script) }
     ensures kinds { (script : List ℕ) (tokens : List Token) → IsLexed script tokens → All (IsTokenOf script) tokens }
     ensures texts { (script : List ℕ) (token : Token) → IsTokenOf script token → token.kind ≡ TokenKind.Text → HasText script token }
-    ensures content { (script : List ℕ) (token : Token) (content : List ℕ) → IsTokenOf script token → token.kind ≡ TokenKind.Text → IsTextAt script token content → IsUtf8 content }
+    ensures one_content { (script : List ℕ) (token : Token) (content other : List ℕ) → IsTextAt script token content → IsTextAt script token other → content ≡ other }
+    ensures utf8 { (script : List ℕ) (token : Token) (content : List ℕ) → IsTokenOf script token → token.kind ≡ TokenKind.Text → IsTextAt script token content → IsUtf8 content }
 {}

@@ -9,7 +9,11 @@ use crate::refusal::{LexRefusal, refusal_at};
 use crate::token::Token;
 use std::alloc::Global;
 
-/// Cuts a script into its tokens. It is refused at its first lexical fault.
+/// Cuts a script into its tokens, each the longest at its place. Spaces, tabs, line feeds, carriage
+/// returns and comments, from `--` to before the next line feed or the end, stand between tokens and
+/// mean nothing. Refused at the first place where no token can be taken: with `OpenText` where a text
+/// does not close, with `NumberRange` where a number is outside 64 bits, else with `BadByte`; and
+/// with `NoMemory` where memory runs out.
 pub fn lex(alloc: Global, script: &[u8]) -> Result<Vec<Token>, LexRefusal>
     ensures tokens { IfOk result (λ tokens. IsLexed script.now tokens.items) }
     ensures refused { IfErr result (IsRefusal script.now) }

@@ -52,7 +52,8 @@ fn closing(mut z: &[u8]) -> Option<usize>
     None
 }
 
-/// The content of a text token of the script, with each doubled quote made single.
+/// The content of a text token of the script, with each doubled quote made single. Refused where
+/// memory runs out.
 pub fn text_of(alloc: Global, script: &[u8], token: &Token) -> Result<Vec<u8>, NoMemory>
     requires { HasText script.now token.now }
     ensures content { IfOk result (λ content. IsTextAt script.now token.now content.items) }

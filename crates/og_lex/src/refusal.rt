@@ -3,21 +3,21 @@ ghost use Rattle.std.specs.Prelude.{◌≡◌};
 ghost use Rattle.og_lex.specs.Front as spec;
 
 use crate::front::Fault;
-use og_base::NoMemory;
 use std::alloc::{AllocError, AllocFailed};
 use thiserror::Error;
 
-/// Why a script has no tokens: its first lexical fault, with the place of it in bytes from 0, or
-/// want of memory.
+/// Why a script has no tokens: its first lexical fault, with its place in bytes from 0, or want of
+/// memory.
 #[derive(Clone, Copy, Debug, PartialEq, Eq, Error)]
 pub enum LexRefusal {
-    /// No token begins here, a text is not UTF-8, or `-` stands before neither a digit nor `-`.
+    /// No token begins here: the byte begins none, `-` stands before neither a digit nor `-`, or
+    /// the content of a text is not UTF-8.
     #[error("no token at {offset}")]
     BadByte { offset: usize },
-    /// The text that begins here has no closing quote.
+    /// The text that begins here does not close.
     #[error("open text at {offset}")]
     OpenText { offset: usize },
-    /// The number that begins here has a value outside 64 bits with a sign.
+    /// The number that begins here is below -9223372036854775808 or above 9223372036854775807.
     #[error("number out of range at {offset}")]
     NumberRange { offset: usize },
     /// Memory ran out.
