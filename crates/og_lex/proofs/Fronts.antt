@@ -4,6 +4,7 @@ use Rattle.std.proofs.lemmas.Bool.Decides.{Decides-eqb, nat_tests}
 use Rattle.std.proofs.lemmas.Int.{ints}
 use Rattle.std.proofs.lemmas.Str.{is_utf8-from_IsUtf8}
 use Rattle.std.specs.Char.{is_ascii_digit}
+use Rattle.std.specs.List.{prefix_len}
 use Rattle.std.specs.Str.{IsUtf8, is_utf8}
 use Rattle.og_lex.specs.declared.front.Fault.TheVariants as faults
 use Rattle.og_lex.specs.declared.front.Front.TheVariants.{Skip, Piece, Bad}
@@ -45,12 +46,16 @@ front-comment text rest h =
     let len = prefix_len-run is_in_line h.0 rest h.2 in
     rw h.1 (ap Skip (omega (arith, len)))
 
-pub front-word : (text rest : List ℕ) → IsWord text rest → front (text ++ rest) ≡ Piece kinds.Word (length text)
+pub front-begins_word : (b : ℕ) (z : List ℕ) → begins_word b ≡ true → front (b ∷ z) ≡ Piece kinds.Word (1 + prefix_len is_in_word z)
 unfolding front
+front-begins_word b z h =
+    let other = word_only b h in
+    rw (other, h) refl
+
+pub front-word : (text rest : List ℕ) → IsWord text rest → front (text ++ rest) ≡ Piece kinds.Word (length text)
 front-word text rest h =
-    let other = word_only h.0 h.3 in
     let len = prefix_len-run is_in_word h.1 rest h.4 in
-    rw (h.2, other, h.3) (ap (Piece kinds.Word) (omega (arith, len)))
+    rw h.2 (front-begins_word h.0 (h.1 ++ rest) h.3 ∙ ap (Piece kinds.Word) (omega (arith, len)))
 
 -- digits with a sign, or without
 abbrev pub with_sign : Bool → List ℕ → List ℕ
@@ -58,14 +63,14 @@ with_sign true digits = 45 ∷ digits
 with_sign false digits = digits
 
 -- a numeral, by its sign and its digits
-record Signed (z rest : List ℕ) : Type 0 where
-  is_negative : Bool
-  digits : List ℕ
-  same : z ≡ with_sign is_negative digits
-  run : IsRun is_ascii_digit digits rest
-  some : 0 < length digits
+pub record Signed (z rest : List ℕ) : Type 0 where
+  pub is_negative : Bool
+  pub digits : List ℕ
+  pub same : z ≡ with_sign is_negative digits
+  pub run : IsRun is_ascii_digit digits rest
+  pub some : 0 < length digits
 
-signed_parts : (z rest : List ℕ) → IsNumeral z rest → Signed z rest
+pub signed_parts : (z rest : List ℕ) → IsNumeral z rest → Signed z rest
 signed_parts [] rest h = absurd (omega (arith, h.some))
 signed_parts (b ∷ z) rest h = by (b == 45) refl h.digits h.some
   where
@@ -99,18 +104,18 @@ number-run is_negative digits rest h =
     let front = ap (λ n. take n (digits ++ rest)) len ∙ take-joined digits rest in
     ap₂ (λ n z. numbered (in_64 (signed is_negative (value_after 0 z))) (sign_len is_negative + n)) len front
 
-front-with_sign : (is_negative : Bool) (digits rest : List ℕ) → IsRun is_ascii_digit digits rest → 0 < length digits
+pub front-with_sign : (is_negative : Bool) (digits rest : List ℕ) → AreAll is_ascii_digit digits → 0 < length digits
     → front (with_sign is_negative digits ++ rest) ≡ number is_negative (digits ++ rest)
 unfolding front dash
 front-with_sign is_negative [] rest h some = absurd (omega (arith, some))
-front-with_sign true (b ∷ z) rest h some = rw ((digit_only b h.all.0).sign, h.all.0) refl
-front-with_sign false (b ∷ z) rest h some = rw ((digit_only b h.all.0).blank, (digit_only b h.all.0).word, h.all.0) refl
+front-with_sign true (b ∷ z) rest h some = rw ((digit_only b h.0).sign, h.0) refl
+front-with_sign false (b ∷ z) rest h some = rw ((digit_only b h.0).blank, (digit_only b h.0).word, h.0) refl
 
 pub front-numeral : (z rest : List ℕ) → IsNumeral z rest → front (z ++ rest) ≡ numbered (in_64 (value_of z)) (length z)
 front-numeral z rest h =
     let s = signed_parts z rest h in
     subst (λ y. front (y ++ rest) ≡ numbered (in_64 (value_of y)) (length y)) (sym s.same)
-    (front-with_sign s.is_negative s.digits rest s.run s.some
+    (front-with_sign s.is_negative s.digits rest s.run.all s.some
     ∙ (number-run s.is_negative s.digits rest s.run
     ∙ ap₂ (λ n len. numbered (in_64 n) len) (sym (value_of-with_sign s.is_negative s.digits s.run.all)) (length-with_sign s.is_negative s.digits)))
 
@@ -160,7 +165,7 @@ quoted-before content rest = ap (λ z. 39 ∷ z) (append_assoc (doubled content)
 pub length-quoted : (content : List ℕ) → length (doubled content) + 2 ≡ length (quoted content)
 length-quoted content = omega (arith, length-append (doubled content) (39 ∷ []))
 
-front-quote : (z : List ℕ) → front (39 ∷ z) ≡ text z
+pub front-quote : (z : List ℕ) → front (39 ∷ z) ≡ text z
 unfolding front
 front-quote z = refl
 

@@ -1,5 +1,6 @@
 pub mod Fronts
 pub mod Lexing
+pub mod Longest
 pub mod Meanings
 pub mod Numbers
 pub mod Quotes

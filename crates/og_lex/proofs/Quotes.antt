@@ -9,20 +9,27 @@ use Rattle.og_lex.proofs.Runs.{take-joined}
 
 -- ---- where a text closes
 
--- a content with doubled quotes, before a quote that no quote follows, closes there
+-- a content with doubled quotes is passed over
+pub closing-doubled : (at : ℕ) (content z : List ℕ) → closing false at (doubled content ++ z) ≡ closing false (at + length (doubled content)) z
+closing-doubled at [] z = ap (λ k. closing false k z) (omega arith)
+closing-doubled at (b ∷ content) z = by (is_quote b) refl (λ k. closing-doubled k content z)
+  where
+    by : (t : Bool) → is_quote b ≡ t → ((k : ℕ) → closing false k (doubled content ++ z) ≡ closing false (k + length (doubled content)) z)
+        → closing false at (cond t (39 ∷ 39 ∷ doubled content) (b ∷ doubled content) ++ z)
+        ≡ closing false (at + length (cond t (39 ∷ 39 ∷ doubled content) (b ∷ doubled content))) z
+    by true e more = more (at + 1 + 1) ∙ ap (λ k. closing false k z) (omega arith)
+    by false e more =
+        ap (λ t. cond (t && not (slice_index (doubled content ++ z) 0 == 39)) (Some at) (closing t (at + 1) (doubled content ++ z))) e
+        ∙ (more (at + 1) ∙ ap (λ k. closing false k z) (omega arith))
+
+-- a quote that no quote follows closes
+closing-quote : (at : ℕ) (z : List ℕ) → Stops is_quote z → closing false at (39 ∷ z) ≡ Some at
+closing-quote at [] h = refl
+closing-quote at (b ∷ z) h = ap (λ t. cond (not t) (Some at) (closing true (at + 1) (b ∷ z))) h
+
 pub closing-quoted : (at : ℕ) (content rest : List ℕ) → Stops is_quote rest
     → closing false at (doubled content ++ 39 ∷ rest) ≡ Some (at + length (doubled content))
-closing-quoted at [] [] h = ap Some (omega arith)
-closing-quoted at [] (b ∷ rest) h =
-    ap (λ t. cond (not t) (Some at) (closing true (at + 1) (b ∷ rest))) h ∙ ap Some (omega arith)
-closing-quoted at (b ∷ content) rest h = by (is_quote b) refl (λ k. closing-quoted k content rest h)
-  where
-    by : (t : Bool) → is_quote b ≡ t → ((k : ℕ) → closing false k (doubled content ++ 39 ∷ rest) ≡ Some (k + length (doubled content)))
-        → closing false at (cond t (39 ∷ 39 ∷ doubled content) (b ∷ doubled content) ++ 39 ∷ rest) ≡ Some (at + length (cond t (39 ∷ 39 ∷ doubled content) (b ∷ doubled content)))
-    by true e more = more (at + 1 + 1) ∙ ap Some (omega arith)
-    by false e more =
-        ap (λ t. cond (t && not (slice_index (doubled content ++ 39 ∷ rest) 0 == 39)) (Some at) (closing t (at + 1) (doubled content ++ 39 ∷ rest))) e
-        ∙ (more (at + 1) ∙ ap Some (omega arith))
+closing-quoted at content rest h = closing-doubled at content (39 ∷ rest) ∙ closing-quote (at + length (doubled content)) rest h
 
 -- where a text closes, its content and what follows it
 pub record Closed (at : ℕ) (z : List ℕ) (end : ℕ) : Type 0 where

@@ -1,7 +1,7 @@
 -- Runs of bytes of one class, and lists that are put together.
-use Rattle.std.proofs.Common.{◌≡◌, ℕ, ◌+◌, Bool, true, false, cond, List, [], ◌∷◌, ◌++◌, length, take, drop, refl, ap, ◌∙◌, arith}
+use Rattle.std.proofs.Common.{◌≡◌, ℕ, ◌+◌, ◌≤◌, Bool, true, false, cond, List, [], ◌∷◌, ◌++◌, length, take, drop, refl, ap, ◌∙◌, arith}
 use Rattle.std.specs.List.{prefix_len}
-use Rattle.og_lex.specs.Bytes.{IsRun}
+use Rattle.og_lex.specs.Bytes.{AreAll, IsRun}
 
 -- the run before bytes of another class is the longest
 pub prefix_len-run : (p : ℕ → Bool) (text rest : List ℕ) → IsRun p text rest → prefix_len p (text ++ rest) ≡ length text
@@ -10,6 +10,14 @@ prefix_len-run p [] (b ∷ rest) h = ap (λ t. cond t (1 + prefix_len p rest) 0)
 prefix_len-run p (b ∷ text) rest h =
     let more = prefix_len-run p text rest (record { all = h.all.1; whole = h.whole }) in
     ap (λ t. cond t (1 + prefix_len p (text ++ rest)) 0) h.all.0 ∙ omega (arith, more)
+
+-- bytes of the class are within the longest run
+pub prefix_len-all : (p : ℕ → Bool) (text rest : List ℕ) → AreAll p text → length text ≤ prefix_len p (text ++ rest)
+prefix_len-all p [] rest h = omega arith
+prefix_len-all p (b ∷ text) rest h =
+    let more = prefix_len-all p text rest h.1 in
+    let first = ap (λ t. cond t (1 + prefix_len p (text ++ rest)) 0) h.0 in
+    omega (arith, more, first)
 
 -- a run at the front, with what follows it
 pub record Cut (p : ℕ → Bool) (z : List ℕ) : Type 0 where

@@ -59,7 +59,7 @@ signed is_negative n = if is_negative then neg_ℤ (pos n) else pos n
 abbrev pub value_of : List ℕ → ℤ
 value_of text = signed (has_sign text) (value_after 0 (unsigned text))
 
--- a number of 64 bits with a sign
+-- from -9223372036854775808 to 9223372036854775807
 pub record IsIn64 (n : ℤ) : Type 0 where
   pub above : neg_ℤ (pos (2 ^ 63)) ≤ℤ n
   pub below : n <ℤ pos (2 ^ 63)

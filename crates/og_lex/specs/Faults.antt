@@ -23,7 +23,7 @@ Goes z =
     ⊎ (((text rest : List ℕ) × (z ≡ text ++ rest) × IsComment text rest)
     ⊎ ((kind : TokenKind) × (text rest : List ℕ) × (z ≡ text ++ rest) × IsToken kind text rest))
 
--- nothing else
+-- bytes follow, but none of what may come first, and neither of the two other faults
 pub record IsBadByte (z : List ℕ) : Type 0 where
   pub more : z ≢ []
   pub stuck : ¬ Goes z

@@ -1,9 +1,9 @@
 //! What is known of the tokens of any script.
-ghost use Rattle.std.specs.Prelude.{◌≡◌, ◌⊎◌, ℕ, List, length};
+ghost use Rattle.std.specs.Prelude.{◌≡◌, ◌≤◌, ◌⊎◌, ◌++◌, ℕ, List, [], length};
 ghost use Rattle.std.specs.List.{All};
 ghost use Rattle.std.specs.Str.{IsUtf8};
 ghost use Rattle.og_lex.specs.Faults.{IsFirstFault};
-ghost use Rattle.og_lex.specs.Grammar.{IsLexed, IsTextAt, IsTokenOf, HasText, Rise};
+ghost use Rattle.og_lex.specs.Grammar.{IsLexed, IsTextAt, IsToken, IsTokenOf, HasText, Rise};
 ghost use Rattle.og_lex.specs.declared.refusal.LexRefusal.{LexRefusal};
 ghost use Rattle.og_lex.specs.declared.token.Token.{Token};
 ghost use Rattle.og_lex.specs.declared.token.TokenKind.{TokenKind};
@@ -18,6 +18,11 @@ pub fn tokens_or_a_fault()
     ensures some { (script : List ℕ) → ((tokens : List Token) × IsLexed script tokens) ⊎ ((fault : LexRefusal) × IsFirstFault script fault) }
     ensures apart { (script : List ℕ) (tokens : List Token) (fault : LexRefusal) → IsLexed script tokens → ¬ IsFirstFault script fault }
     ensures one_fault { (script : List ℕ) (fault other : LexRefusal) → IsFirstFault script fault → IsFirstFault script other → fault ≡ other }
+{}
+
+/// A token is at least as long as each token that its bytes and those after it begin with.
+pub fn longest_token()
+    ensures longest { (kind other : TokenKind) (text rest longer after : List ℕ) → IsToken kind text rest → text ++ rest ≡ longer ++ after → IsToken other longer [] → length longer ≤ length text }
 {}
 
 /// The spans of a script's tokens rise and lie within it, and each token is of its kind there. A

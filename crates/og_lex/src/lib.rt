@@ -11,7 +11,7 @@ mod run;
 mod symbol;
 mod token;
 
-pub use laws::{one_list_a_script, tokens_of_a_script, tokens_or_a_fault};
+pub use laws::{longest_token, one_list_a_script, tokens_of_a_script, tokens_or_a_fault};
 pub use lexer::lex;
 pub use quote::text_of;
 pub use refusal::LexRefusal;
