@@ -8,7 +8,7 @@ use crate::run::{Class, begins_word, byte_at, is_blank, run_len};
 use crate::symbol::mark;
 use crate::token::TokenKind;
 
-// What stands at the front: bytes to pass over, a token, each with its length, or a fault.
+/// What stands at the front: bytes to pass over, a token, each with its length, or a fault.
 #[derive(Clone, Copy, Debug)]
 pub enum Front {
     Skip(usize),
@@ -16,7 +16,7 @@ pub enum Front {
     Bad(Fault),
 }
 
-// Why no token stands at the front.
+/// Why no token stands at the front.
 #[derive(Clone, Copy, Debug)]
 pub enum Fault {
     BadByte,
@@ -24,7 +24,7 @@ pub enum Fault {
     NumberRange,
 }
 
-// What stands at the front of the bytes.
+/// What stands at the front of the bytes.
 #[tactic(auto, unfolding(crate::specs::Front::front))]
 pub fn front_of(z: &[u8]) -> Front
     ensures value { result ≡ spec.front z.now }

@@ -8,7 +8,7 @@ use crate::front::{Fault, Front};
 use crate::run::{Class, run_len};
 use crate::token::TokenKind;
 
-// The number at the front, without its sign, which has so many bytes.
+/// The number whose digits stand at the front, after a `-` where it is negative.
 #[tactic(auto, unfolding(crate::specs::Front::number))]
 pub fn number(z: &[u8], is_negative: bool) -> Front
     requires { IsTrue (is_ascii_digit (slice_index z.now 0)) }

@@ -10,7 +10,7 @@ use crate::token::{Token, TokenKind};
 use og_base::NoMemory;
 use std::alloc::Global;
 
-// The text at the front, by the bytes after its first quote.
+/// The text at the front, by the bytes after its first quote.
 #[tactic(auto, unfolding(crate::specs::Front::text))]
 pub fn text(z: &[u8]) -> Front
     ensures value { result ≡ spec.text z.now }
@@ -52,8 +52,8 @@ fn closing(mut z: &[u8]) -> Option<usize>
     None
 }
 
-/// The content of a text token of the script, with each doubled quote made single. Refused where
-/// memory runs out.
+/// The content of a text token of the script, with each doubled quote made single. The bytes of the
+/// token have to be a text. Refused where memory runs out.
 pub fn text_of(alloc: Global, script: &[u8], token: &Token) -> Result<Vec<u8>, NoMemory>
     requires { HasText script.now token.now }
     ensures content { IfOk result (λ content. IsTextAt script.now token.now content.items) }

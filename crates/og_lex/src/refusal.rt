@@ -45,7 +45,7 @@ impl<T: Drop> From<AllocFailed<T>> for LexRefusal {
     }
 }
 
-// The refusal of a fault at a place.
+/// The refusal of a fault at a place.
 pub fn refusal_at(fault: Fault, offset: usize) -> LexRefusal
     ensures { result ≡ spec.refusal_at fault offset }
 {

@@ -4,7 +4,7 @@ ghost use Rattle.std.specs.List.{prefix_len};
 ghost use Rattle.og_lex.specs.Bytes.{is_blank, begins_word};
 ghost use Rattle.og_lex.specs.Front as spec;
 
-// A class of bytes of which runs are made.
+/// A class of bytes of which runs are made.
 #[derive(Clone, Copy, Debug)]
 pub enum Class {
     Word,
@@ -23,7 +23,7 @@ fn is_in(class: Class, b: u8) -> bool
     }
 }
 
-// How many bytes of the class stand at the front.
+/// How many bytes of the class stand at the front.
 pub fn run_len(class: Class, z: &[u8]) -> usize
     ensures value { result ≡ prefix_len (spec.is_in class) z.now }
     ensures within { result ≤ length z.now }
@@ -35,21 +35,21 @@ pub fn run_len(class: Class, z: &[u8]) -> usize
     end
 }
 
-// Whether the byte stands between tokens.
+/// Whether the byte stands between tokens.
 pub fn is_blank(b: u8) -> bool
     ensures { result ≡ is_blank b }
 {
     b == b' ' || b == b'\t' || b == b'\n' || b == b'\r'
 }
 
-// Whether a word begins with the byte.
+/// Whether a word begins with the byte.
 pub fn begins_word(b: u8) -> bool
     ensures { result ≡ begins_word b }
 {
     b.is_ascii_alphabetic() || b == b'_'
 }
 
-// The byte at a place, and 0 after the end.
+/// The byte at a place, and 0 after the end.
 pub fn byte_at(z: &[u8], at: usize) -> u8
     ensures value { result ≡ slice_index z.now at }
     ensures within { result ≢ 0 → at < length z.now }

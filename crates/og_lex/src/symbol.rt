@@ -22,7 +22,7 @@ pub enum Symbol {
     Greater,
 }
 
-// The symbol at the front, by its first byte and the one after it.
+/// The symbol at the front, by its first byte and the one after it.
 #[tactic(auto, unfolding(crate::specs::Front::mark))]
 pub fn mark(b: u8, next: u8) -> Front
     ensures value { result ≡ spec.mark b next }
