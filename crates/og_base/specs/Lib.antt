@@ -1,6 +1,7 @@
 pub mod Boundaries
 pub mod Bytes
 pub mod Calendar
+pub mod Letters
 pub mod Set
 pub mod SetOps
 pub mod Told

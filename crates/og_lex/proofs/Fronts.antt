@@ -9,7 +9,8 @@ use Rattle.std.specs.Str.{IsUtf8, is_utf8}
 use Rattle.og_lex.specs.declared.front.Fault.TheVariants as faults
 use Rattle.og_lex.specs.declared.front.Front.TheVariants.{Skip, Piece, Bad}
 use Rattle.og_lex.specs.declared.token.TokenKind.TheVariants as kinds
-use Rattle.og_lex.specs.Bytes.{is_blank, begins_word, is_in_word, is_in_line, is_quote, AreAll, Stops, IsRun, has_sign, unsigned, value_after, signed, value_of, IsIn64, doubled, quoted}
+use Rattle.og_base.specs.Letters.{begins_word, is_in_word}
+use Rattle.og_lex.specs.Bytes.{is_blank, is_in_line, is_quote, AreAll, Stops, IsRun, has_sign, unsigned, value_after, signed, value_of, IsIn64, doubled, quoted}
 use Rattle.og_lex.specs.Faults.{IsOpenText, IsNumberRange}
 use Rattle.og_lex.specs.Front.{front, dash, number, numbered, in_64, sign_len, text, closed, closing}
 use Rattle.og_lex.specs.Grammar.{IsComment, IsWord, IsNumeral, IsNumber, IsQuoted}

@@ -11,7 +11,8 @@ use Rattle.og_lex.specs.declared.symbol.Symbol.{Symbol}
 use Rattle.og_lex.specs.declared.symbol.Symbol.TheVariants as symbols
 use Rattle.og_lex.specs.declared.token.TokenKind.{TokenKind}
 use Rattle.og_lex.specs.declared.token.TokenKind.TheVariants as kinds
-use Rattle.og_lex.specs.Bytes.{is_in_word, doubled, quoted, value_after, signed}
+use Rattle.og_base.specs.Letters.{is_in_word}
+use Rattle.og_lex.specs.Bytes.{doubled, quoted, value_after, signed}
 use Rattle.og_lex.specs.Front.{front, mark, less, greater, single, marked, number, numbered, in_64, sign_len, text, closed, closing}
 use Rattle.og_lex.specs.Grammar.{IsWord, IsNumeral, IsToken, symbol_text}
 use Rattle.og_lex.proofs.Fronts.{front-begins_word, with_sign, signed_parts, front-with_sign, length-with_sign, quoted-before, length-quoted, front-quote}

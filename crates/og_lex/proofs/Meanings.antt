@@ -12,7 +12,8 @@ use Rattle.og_lex.specs.declared.front.Front.TheVariants.{Skip, Piece, Bad}
 use Rattle.og_lex.specs.declared.symbol.Symbol.{Symbol}
 use Rattle.og_lex.specs.declared.symbol.Symbol.TheVariants as symbols
 use Rattle.og_lex.specs.declared.token.TokenKind.TheVariants as kinds
-use Rattle.og_lex.specs.Bytes.{is_blank, begins_word, is_in_word, is_in_line, is_quote, Stops, IsRun, value_of, value_after, signed, IsIn64, doubled, quoted}
+use Rattle.og_base.specs.Letters.{begins_word, is_in_word}
+use Rattle.og_lex.specs.Bytes.{is_blank, is_in_line, is_quote, Stops, IsRun, value_of, value_after, signed, IsIn64, doubled, quoted}
 use Rattle.og_lex.specs.Faults.{IsOpenText, IsNumberRange}
 use Rattle.og_lex.specs.Front.{front, dash, number, numbered, in_64, sign_len, text, closed, closing, mark, less, greater, single, marked}
 use Rattle.og_lex.specs.Grammar.{IsComment, IsNumeral, IsToken, symbol_text, makes_longer}

@@ -1,18 +1,9 @@
 -- The bytes that tokens are made of.
 use Rattle.std.specs.Prelude.{◌+◌, ◌-◌, ◌*◌, ◌^◌, ◌||◌, ◌==◌, ◌++◌, ◌≤ℤ◌, ◌<ℤ◌, ℕ, ℤ, pos, neg_ℤ, Bool, not, if◌then◌else◌, List, [], ◌∷◌, ⊤, IsTrue, IsFalse, slice_index}
-use Rattle.std.specs.Char.{is_ascii_alphabetic, is_ascii_alphanumeric}
 
 -- space, tab, line feed or carriage return
 abbrev pub is_blank : ℕ → Bool
 is_blank b = b == 32 || b == 9 || b == 10 || b == 13
-
--- a letter or `_`
-abbrev pub begins_word : ℕ → Bool
-begins_word b = is_ascii_alphabetic b || b == 95
-
--- a letter, a digit or `_`
-abbrev pub is_in_word : ℕ → Bool
-is_in_word b = is_ascii_alphanumeric b || b == 95
 
 -- no line feed
 abbrev pub is_in_line : ℕ → Bool

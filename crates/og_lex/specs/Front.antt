@@ -4,7 +4,8 @@ use Rattle.std.specs.Prelude.{◌≡◌, ◌+◌, ◌-◌, ◌≤◌, ◌^◌, �
 use Rattle.std.specs.Char.{is_ascii_digit}
 use Rattle.std.specs.List.{prefix_len}
 use Rattle.std.specs.Str.{is_utf8}
-use Rattle.og_lex.specs.Bytes.{is_blank, begins_word, is_in_word, is_in_line, is_quote, value_after, signed}
+use Rattle.og_base.specs.Letters.{begins_word, is_in_word}
+use Rattle.og_lex.specs.Bytes.{is_blank, is_in_line, is_quote, value_after, signed}
 use Rattle.og_lex.specs.declared.front.Fault.{Fault}
 use Rattle.og_lex.specs.declared.front.Fault.TheVariants as faults
 use Rattle.og_lex.specs.declared.front.Front.{Front}

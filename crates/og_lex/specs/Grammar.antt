@@ -2,7 +2,8 @@
 use Rattle.std.specs.Prelude.{◌≡◌, ◌+◌, ◌≤◌, ◌<◌, ◌++◌, ◌||◌, ◌==◌, ℕ, ℤ, Bool, false, List, [], ◌∷◌, length, drop, codes, slice_range, IsTrue}
 use Rattle.std.specs.Char.{is_ascii_digit}
 use Rattle.std.specs.Str.{IsUtf8}
-use Rattle.og_lex.specs.Bytes.{is_blank, begins_word, is_in_word, is_in_line, is_quote, Stops, IsRun, unsigned, value_of, IsIn64, quoted}
+use Rattle.og_base.specs.Letters.{begins_word, is_in_word}
+use Rattle.og_lex.specs.Bytes.{is_blank, is_in_line, is_quote, Stops, IsRun, unsigned, value_of, IsIn64, quoted}
 use Rattle.og_lex.specs.declared.symbol.Symbol.{Symbol}
 use Rattle.og_lex.specs.declared.symbol.Symbol.TheVariants as symbols
 use Rattle.og_lex.specs.declared.token.Token.{Token}

@@ -1,7 +1,8 @@
 //! Runs of bytes of one class.
 ghost use Rattle.std.specs.Prelude.{◌≡◌, ◌≢◌, ◌<◌, ◌≤◌, length, slice_index};
 ghost use Rattle.std.specs.List.{prefix_len};
-ghost use Rattle.og_lex.specs.Bytes.{is_blank, begins_word};
+ghost use Rattle.og_base.specs.Letters.{begins_word};
+ghost use Rattle.og_lex.specs.Bytes.{is_blank};
 ghost use Rattle.og_lex.specs.Front as spec;
 
 /// A class of bytes of which runs are made.

@@ -1,7 +1,8 @@
 //! Names of tables, results and columns.
-ghost use Rattle.std.specs.Prelude.{◌≡◌, ◌||◌, ◌==◌, Err, IfOk, false, true};
+ghost use Rattle.std.specs.Prelude.{◌≡◌, Err, IfOk, false, true};
 ghost use Rattle.std.specs.List.{list_all};
-ghost use Rattle.og_value.specs.Words.{is_letter, is_word_byte, is_word, folded};
+ghost use Rattle.og_base.specs.Letters.{begins_word, is_in_word};
+ghost use Rattle.og_value.specs.Words.{is_word, folded};
 ghost use Rattle.og_value.specs.declared.name.NameRefusal.{NameRefusal};
 
 use og_base::NoMemory;
@@ -121,28 +122,30 @@ impl Hash for Name {
     }
 }
 
-// Whether a letter comes first, and then letters and digits.
+// Whether a letter or `_` comes first, and then letters, digits and `_`.
 fn is_word(bytes: &[u8]) -> bool
     ensures { result ≡ is_word bytes.now }
 {
     match bytes.split_first() {
-        Some((first, rest)) => is_letter(*first) && are_word_bytes(rest),
+        Some((first, rest)) => begins_word(*first) && are_in_word(rest),
         None => false,
     }
 }
 
-// Whether all of the bytes may stand inside a word.
-fn are_word_bytes(bytes: &[u8]) -> bool
-    ensures { result ≡ list_all is_word_byte bytes.now }
-{
-    bytes.iter().all(|b| is_letter(*b) || b.is_ascii_digit())
-}
-
-// Whether the byte is a letter or an underscore.
-fn is_letter(byte: u8) -> bool
-    ensures { result ≡ is_letter byte }
+// Whether the byte may stand first in a word.
+fn begins_word(byte: u8) -> bool
+    ensures { result ≡ begins_word byte }
 {
     byte.is_ascii_alphabetic() || byte == b'_'
+}
+
+// Whether all of the bytes may stand inside a word.
+fn are_in_word(bytes: &[u8]) -> bool
+    ensures { result ≡ list_all is_in_word bytes.now }
+{
+    bytes
+        .iter()
+        .all(|b| b.is_ascii_alphanumeric() || *b == b'_')
 }
 
 #[cfg(test)]
