@@ -1,11 +1,13 @@
-//! The trait of catalogs, at one table.
-use og_value::{Catalog, Name, Schema, What};
+//! The traits of catalogs and of named relations, at one table.
+use og_rel::{Rel, Tables};
+use og_value::{Catalog, Name, Row, Schema, What};
 
-/// A catalog that knows one name, of a table.
-#[derive(Debug, Drop)]
+/// One table: its name, its schema and its rows.
+#[derive(Drop)]
 pub struct OneTable {
     pub name: Name,
     pub schema: Schema,
+    pub rel: Rel<Row>,
 }
 
 impl Catalog for OneTable {
@@ -32,6 +34,21 @@ impl Catalog for OneTable {
     }
 }
 
+impl Tables<Row> for OneTable {
+    ghost use Rattle.std.specs.Prelude.{Some, None, if◌then◌else◌};
+    ghost use Rattle.std.specs.Str.{bytes_eq};
+
+    ghost named = { λ table name. if bytes_eq table.name name then Some table.rel else None };
+
+    fn rel(&self, name: &[u8]) -> Option<&Rel<Row>> {
+        if self.name.bytes() == name {
+            Some(&self.rel)
+        } else {
+            None
+        }
+    }
+}
+
 #[cfg(test)]
 mod tests {
     use super::*;
@@ -39,21 +56,23 @@ mod tests {
     use std::test::Fail;
 
     #[test]
-    fn a_catalog_knows_its_names_alone(rt: HostRuntime) -> Result<(), Fail> {
+    fn a_table_is_known_by_its_name_alone(rt: HostRuntime) -> Result<(), Fail> {
         let name = Name::of(rt.alloc(), b"Bugs")?;
         let mut columns = Vec::new(rt.alloc());
         columns.push(Column {
             name: name.copy()?,
             kind: Kind::Date,
         })?;
-        let catalog = OneTable {
+        let table = OneTable {
             name,
             schema: Schema::of(columns),
+            rel: Rel::new(rt.alloc()),
         };
         for (asked, is_known) in [("bugs", true), ("BUGS", true), ("bug", false)] {
             let asked = Name::of(rt.alloc(), asked.as_bytes())?;
-            assert_eq!(rt; catalog.what(&asked).is_some(), is_known);
-            assert_eq!(rt; catalog.schema(&asked).is_some(), is_known);
+            assert_eq!(rt; table.what(&asked).is_some(), is_known);
+            assert_eq!(rt; table.schema(&asked).is_some(), is_known);
+            assert_eq!(rt; table.rel(asked.bytes()).is_some(), is_known);
         }
         Ok(())
     }
