@@ -1,0 +1,3 @@
+pub mod EverySort
+pub mod Exact
+pub mod Loops

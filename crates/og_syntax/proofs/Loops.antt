@@ -1,0 +1,81 @@
+-- The turns of a loop that reads parts.
+use Rattle.std.proofs.Common.{◌≡◌, ◌⊎◌, inl, inr, ℕ, zero, suc, ◌≤◌, ◌<◌, Bool, true, false, if◌then◌else◌, List, [], ◌∷◌, ◌++◌, length, drop, Option, Some, None, refl, sym, ap, ◌∙◌, subst, le_refl, arith, append_assoc, append-nil}
+use Rattle.og_syntax.specs.declared.lexeme.Sort.{Sort}
+use Rattle.og_syntax.specs.declared.lexeme.Sort.TheVariants as k
+use Rattle.og_syntax.specs.declared.lexeme.Lexeme.{Lexeme}
+use Rattle.og_syntax.specs.Lexemes.{sort_at}
+use Rattle.og_syntax.specs.Reading as reading
+use Rattle.og_syntax.specs.Reading.{Reads, Outcome, got, and_then, more_from, more, with_front}
+use Rattle.og_syntax.specs.Rules.{Rule}
+use Rattle.og_syntax.proofs.Exact.{Exact, shrinks}
+
+-- each part that is read takes a lexeme
+abbrev pub Shrinking : {A : Type 0} → Reads A → Type 0
+Shrinking {A} q = (ts : List Lexeme) (x : A) (rest : List Lexeme) → q ts ≡ got x rest → length rest < length ts
+
+pub shrinking : {A : Type 0} {f : Sort → Bool} {F : Sort → Bool → Bool} {q : Reads A} {Q : Rule A} → Exact false f F q Q → Shrinking q
+shrinking E ts x rest e = (shrinks E ts x rest (E.sound ts x rest e)).1
+
+-- the parts after a part
+abbrev turn : {A : Type 0} → (Sort → Bool) → Reads A → ℕ → A → Reads (List A)
+turn h q n x = reading.bind (more_from h q n) (λ xs. reading.pure (x ∷ xs))
+
+same_turn : {A : Type 0} (h : Sort → Bool) (q : Reads A) (n m : ℕ) (r : Outcome A)
+    → ((x : A) (rest : List Lexeme) → r ≡ got x rest → more_from h q n rest ≡ more_from h q m rest) → and_then r (turn h q n) ≡ and_then r (turn h q m)
+same_turn h q n m (Some x) e = ap (λ r. and_then r (λ xs. reading.pure (x.0 ∷ xs))) (e x.0 x.1 refl)
+same_turn h q n m None e = refl
+
+-- where no part is, any count of turns will do
+none_here : {A : Type 0} (h : Sort → Bool) (q : Reads A) → h k.Nothing ≡ false → (n : ℕ) (ts : List Lexeme) → length ts ≤ 0 → more_from h q n ts ≡ got [] ts
+none_here h q no_part zero ts le = refl
+none_here h q no_part (suc n) [] le = ap (λ b. if b then and_then (q []) (turn h q n) else got [] []) no_part
+none_here h q no_part (suc n) (t ∷ ts) le = absurd (some_there (length ts) le)
+  where
+    some_there : (n : ℕ) → suc n ≤ 0 → ⊥
+    some_there n le = omega (arith, le)
+
+pub below : (a b n : ℕ) → a < b → b ≤ suc n → a ≤ n
+below a b n l m = omega (arith, l, m)
+
+-- as many turns as there are lexemes are enough
+same_turns : {A : Type 0} (h : Sort → Bool) (q : Reads A) → h k.Nothing ≡ false → Shrinking q
+    → (n m : ℕ) (ts : List Lexeme) → length ts ≤ n → length ts ≤ m → more_from h q n ts ≡ more_from h q m ts
+same_turns h q no_part s zero m ts a b = sym (none_here h q no_part m ts a)
+same_turns h q no_part s (suc n) zero ts a b = none_here h q no_part (suc n) ts b
+same_turns h q no_part s (suc n) (suc m) ts a b =
+    ap (λ r. if h (sort_at ts) then r else got [] ts)
+    (same_turn h q n m (q ts) (λ x rest e. same_turns h q no_part s n m rest (below (length rest) (length ts) n (s ts x rest e) a) (below (length rest) (length ts) m (s ts x rest e) b)))
+
+in_front : {A : Type 0} (front : List A) (x : A) (r : Outcome (List A)) → with_front (front ++ x ∷ []) r ≡ with_front front (and_then r (λ xs. reading.pure (x ∷ xs)))
+in_front front x (Some y) = ap (λ z. got z y.1) (append_assoc front (x ∷ []) y.0)
+in_front front x None = refl
+
+-- one more part
+pub more_one : {A : Type 0} (h : Sort → Bool) (q : Reads A) → h k.Nothing ≡ false → Shrinking q
+    → (front : List A) (ts left : List Lexeme) (x : A) → h (sort_at ts) ≡ true → q ts ≡ got x left
+    → with_front (front ++ x ∷ []) (more h q left) ≡ with_front front (more h q ts)
+unfolding more
+more_one h q no_part s front [] left x is e = let c : true ≡ false = sym is ∙ no_part in cc
+more_one h q no_part s front (t ∷ ts) left x is e =
+    in_front front x (more_from h q (length left) left)
+    ∙ ap (λ r. with_front front (and_then r (λ xs. reading.pure (x ∷ xs))))
+      (same_turns h q no_part s (length left) (length ts) left (le_refl _) (below (length left) (suc (length ts)) (length ts) (s (t ∷ ts) x left e) (le_refl _)))
+    ∙ sym (ap (λ r. with_front front (and_then r (turn h q (length ts)))) e)
+    ∙ sym (ap (λ b. with_front front (if b then and_then (q (t ∷ ts)) (turn h q (length ts)) else got [] (t ∷ ts))) is)
+
+-- no further part
+pub more_done : {A : Type 0} (h : Sort → Bool) (q : Reads A) (front : List A) (ts : List Lexeme) → h (sort_at ts) ≡ false → with_front front (more h q ts) ≡ got front ts
+unfolding more
+more_done h q front [] no_part = ap (λ z. got z []) (append-nil front)
+more_done h q front (t ∷ ts) no_part =
+    ap (λ b. with_front front (if b then and_then (q (t ∷ ts)) (turn h q (length ts)) else got [] (t ∷ ts))) no_part
+    ∙ ap (λ z. got z (t ∷ ts)) (append-nil front)
+
+-- a part that is not read
+pub part_fails : {A : Type 0} (h : Sort → Bool) (q : Reads A) → h k.Nothing ≡ false
+    → (front : List A) (ts : List Lexeme) → h (sort_at ts) ≡ true → q ts ≡ None → with_front front (more h q ts) ≡ None
+unfolding more
+part_fails h q no_part front [] is e = let c : true ≡ false = sym is ∙ no_part in cc
+part_fails h q no_part front (t ∷ ts) is e =
+    ap (λ b. with_front front (if b then and_then (q (t ∷ ts)) (turn h q (length ts)) else got [] (t ∷ ts))) is
+    ∙ ap (λ r. with_front front (and_then r (turn h q (length ts)))) e

@@ -1,0 +1,100 @@
+-- Readers, which give a value and the lexemes after it, and the steps that they are made of.
+use Rattle.std.specs.Prelude.{◌≡◌, ℕ, zero, suc, Bool, List, [], ◌∷◌, Option, Some, None, Result, Ok, Err, length, drop, ◌++◌, if◌then◌else◌}
+use denote.Ref.{Bor}
+use Rattle.og_syntax.specs.declared.lexeme.Sort.{Sort}
+use Rattle.og_syntax.specs.declared.lexeme.Lexeme.{Lexeme}
+use Rattle.og_syntax.specs.declared.refusal.Refusal.{Refusal}
+use Rattle.og_syntax.specs.declared.refusal.Refusal.TheVariants as r
+use Rattle.og_syntax.specs.Lexemes.{same_sort, sort_at, sees}
+
+abbrev pub Outcome : Type 0 → Type 0
+Outcome A = Option (A × List Lexeme)
+
+abbrev pub Reads : Type 0 → Type 0
+Reads A = List Lexeme → Outcome A
+
+-- the value, and the lexemes after it
+abbrev pub got : {A : Type 0} → A → List Lexeme → Outcome A
+got x rest = Some (x, rest)
+
+abbrev pub and_then : {A B : Type 0} → Outcome A → (A → Reads B) → Outcome B
+and_then (Some x) f = f x.0 x.1
+and_then None f = None
+
+-- the one, and then the other
+abbrev pub bind : {A B : Type 0} → Reads A → (A → Reads B) → Reads B
+bind p f = λ ts. and_then (p ts) f
+
+infixl 10 ◌>>=◌
+abbrev pub ◌>>=◌ : {A B : Type 0} → Reads A → (A → Reads B) → Reads B
+p >>= f = bind p f
+
+infixl 10 ◌>>◌
+abbrev pub ◌>>◌ : {A B : Type 0} → Reads A → Reads B → Reads B
+p >> q = p >>= (λ _. q)
+
+-- the value, without a lexeme
+abbrev pub pure : {A : Type 0} → A → Reads A
+pure x = λ ts. got x ts
+
+-- nothing is read
+abbrev pub refuse : {A : Type 0} → Reads A
+refuse = λ ts. None
+
+-- the value where there is one
+abbrev pub given : {A : Type 0} → Option A → Reads A
+given (Some x) = pure x
+given None = refuse
+
+-- one of two, by the sort of the first lexeme
+abbrev pub choose : {A : Type 0} → (Sort → Bool) → Reads A → Reads A → Reads A
+choose h p q = λ ts. if h (sort_at ts) then p ts else q ts
+
+-- one of two, by the lexemes that come
+abbrev pub choose_if : {A : Type 0} → (List Lexeme → Bool) → Reads A → Reads A → Reads A
+choose_if h p q = λ ts. if h ts then p ts else q ts
+
+-- a lexeme of the sort
+unfoldable pub tok : Sort → Reads (Unit {0})
+tok sort = λ ts. if sees sort ts then Some (tt, drop 1 ts) else None
+
+abbrev pub word_from : {A : Type 0} → Option A → Reads A
+word_from (Some x) = λ ts. got x (drop 1 ts)
+word_from None = refuse
+
+-- a lexeme with a meaning
+unfoldable pub worded : {A : Type 0} → (Sort → Option A) → Reads A
+worded table = λ ts. word_from (table (sort_at ts)) ts
+
+-- parts for as long as one of these sorts comes, at most so many
+abbrev pub more_from : {A : Type 0} → (Sort → Bool) → Reads A → ℕ → Reads (List A)
+more_from h p zero = pure []
+more_from h p (suc n) = choose h (do x ← p; xs ← more_from h p n; pure (x ∷ xs)) (pure [])
+
+-- parts for as long as one of these sorts comes; the count of lexemes is turns enough
+unfoldable pub more : {A : Type 0} → (Sort → Bool) → Reads A → Reads (List A)
+more h p = λ ts. more_from h p (length ts) ts
+
+-- a part, and then further ones for as long as one of these sorts comes
+abbrev pub joined : {A : Type 0} → Reads A → (Sort → Bool) → Reads A → Reads (List A)
+joined p h q = do x ← p; xs ← more h q; pure (x ∷ xs)
+
+-- a part where one of these sorts comes
+abbrev pub optional : {A : Type 0} → (Sort → Bool) → Reads A → Reads (Option A)
+optional h p = choose h (do x ← p; pure (Some x)) (pure None)
+
+-- what a reading function returned is what is read, unless memory ran out
+abbrev pub Gives : {A : Type 0} → Result (A × Bor (List Lexeme)) Refusal → Outcome A → Type 0
+Gives (Ok x) read = read ≡ Some (x.0, x.1.now)
+Gives (Err r.NoMemory) read = Unit {0}
+Gives (Err r.Syntax) read = read ≡ None
+
+-- the same of a function that returns the lexemes alone
+abbrev pub Passes : Result (Bor (List Lexeme)) Refusal → Outcome (Unit {0}) → Type 0
+Passes (Ok rest) read = read ≡ Some (tt, rest.now)
+Passes (Err r.NoMemory) read = Unit {0}
+Passes (Err r.Syntax) read = read ≡ None
+
+-- with the parts that were read before
+abbrev pub with_front : {A : Type 0} → List A → Outcome (List A) → Outcome (List A)
+with_front xs read = and_then read (λ ys. pure (xs ++ ys))

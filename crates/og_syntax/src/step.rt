@@ -1,0 +1,55 @@
+//! The steps of reading lexemes.
+ghost use Rattle.std.specs.Prelude.{◌≡◌, drop};
+ghost use Rattle.og_syntax.specs.Lexemes.{same_sort, sort_at, sees};
+ghost use Rattle.og_syntax.specs.Reading.{Passes, tok};
+
+use crate::lexeme::{Lexeme, Sort};
+use crate::refusal::Refusal;
+
+// Whether both are the same.
+#[tactic(auto, unfolding(crate::specs::Lexemes::same_sort))]
+pub fn same_sort(a: Sort, b: Sort) -> bool
+    ensures { result ≡ same_sort a b }
+{
+    a == b
+}
+
+// The sort of the first lexeme.
+pub fn sort_at(lexemes: &[Lexeme]) -> Sort
+    ensures { result ≡ sort_at lexemes.now }
+{
+    match lexemes.first() {
+        Some(lexeme) => lexeme.sort,
+        None => Sort::Nothing,
+    }
+}
+
+// Whether a lexeme of that sort comes first.
+#[tactic(auto, unfolding(crate::specs::Lexemes::sees))]
+pub fn sees(lexemes: &[Lexeme], sort: Sort) -> bool
+    ensures { result ≡ sees sort lexemes.now }
+{
+    same_sort(sort_at(lexemes), sort)
+}
+
+// The lexemes after the first one.
+pub fn after(lexemes: &[Lexeme]) -> &[Lexeme]
+    ensures { result.now ≡ drop 1 lexemes.now }
+{
+    match lexemes.split_first() {
+        Some((_, rest)) => rest,
+        None => lexemes,
+    }
+}
+
+// The lexemes after one of that sort.
+#[tactic(auto, unfolding(crate::specs::Reading::tok))]
+pub fn expect(lexemes: &[Lexeme], sort: Sort) -> Result<&[Lexeme], Refusal>
+    ensures { Passes result (tok sort lexemes.now) }
+{
+    if sees(lexemes, sort) {
+        Ok(after(lexemes))
+    } else {
+        Err(Refusal::Syntax)
+    }
+}
