@@ -8,8 +8,8 @@ use Rattle.og_syntax.specs.declared.lexeme.Sort.TheVariants as k
 use Rattle.og_syntax.specs.declared.lexeme.Lexeme.{Lexeme}
 use Rattle.og_syntax.specs.Lexemes.{same_sort, sort_at, sees}
 use Rattle.og_syntax.specs.Reading as reading
-use Rattle.og_syntax.specs.Reading.{Reads, Outcome, got, and_then, refuse, given, choose, choose_if, tok, word_from, worded, more_from, more, joined, optional}
-use Rattle.og_syntax.specs.Rules.{Rule, Given, ◌or◌, Never, Tok, Worded, Many, Joined, Optional}
+use Rattle.og_syntax.specs.Reading.{Reads, Outcome, got, and_then, refuse, given, choose, choose_if, tok, one, is_there, has, word_from, worded, single, pair, more_from, more, joined, optional}
+use Rattle.og_syntax.specs.Rules.{Rule, Given, ◌or◌, Never, Tok, One, Worded, Many, Joined, Optional, Single, Pair}
 use Rattle.og_syntax.specs.Rules as rules_
 use Rattle.og_syntax.proofs.EverySort.{sorts, everywhere_in, everywhere, every_sort}
 
@@ -73,6 +73,10 @@ all_so f g e = in_all (λ a. implies (f a) (g a)) sorts e
 pub all_so_twice : (F : Sort → Bool → Bool) → everywhere_twice (λ a named. implies (F a named) (F a named)) ≡ true
 all_so_twice F = in_all (λ a. implies (F a true) (F a true) && implies (F a false) (F a false)) sorts (λ a. both_of _ _ (self (F a true)) (self (F a false)))
 
+pub or_none : (a b : Bool) → implies (a || (false && b)) a ≡ true
+or_none true b = refl
+or_none false b = refl
+
 -- a test of the first sort, and of whether a name comes after it
 abbrev pub ahead : (Sort → Bool → Bool) → List Lexeme → Bool
 ahead follow ts = follow (sort_at ts) (sees k.Name (drop 1 ts))
@@ -110,34 +114,30 @@ pub exact-pure : {A : Type 0} (a : A) → Exact true nothing anything (reading.p
 exact-pure a = record {
   sound = λ ts x rest e. let s = same_got a x ts rest e in (sym s.0, sym s.1);
   complete = λ ts x rest h f. got_same a x ts rest (sym h.0) (sym h.1);
-  lead = λ ts x rest h. inr (refl, h.1) }
+  lead = λ ts x rest h. inr (refl, h.1);
+}
 
 pub exact-never : {A : Type 0} → Exact {A = A} false nothing anything refuse Never
 exact-never = record {
   sound = λ ts x rest e. cc;
   complete = λ ts x rest h f. absurd h;
-  lead = λ ts x rest h. absurd h }
+  lead = λ ts x rest h. absurd h;
+}
 
 pub exact-given : {A : Type 0} (o : Option A) (R : A → Type 0) → ((x : A) → o ≡ Some x → R x) → ((x : A) → R x → o ≡ Some x) → Exact true nothing anything (given o) (Given R)
 exact-given {A} o R right left = record {
   sound = λ ts x rest e. (right x (value o ts x rest e), left_over o ts x rest e);
   complete = λ ts x rest h f. ap (λ o. given o ts) (left x h.0) ∙ got_same x x ts rest refl (sym h.1);
-  lead = λ ts x rest h. inr (refl, h.1) }
+  lead = λ ts x rest h. inr (refl, h.1);
+}
   where
     value : (o : Option A) (ts : List Lexeme) (x : A) (rest : List Lexeme) → given o ts ≡ got x rest → o ≡ Some x
     value (Some y) ts x rest e = ap Some (same_got y x ts rest e).0
     value None ts x rest e = cc
+
     left_over : (o : Option A) (ts : List Lexeme) (x : A) (rest : List Lexeme) → given o ts ≡ got x rest → rest ≡ ts
     left_over (Some y) ts x rest e = sym (same_got y x ts rest e).1
     left_over None ts x rest e = cc
-
--- a table gives the sort a meaning
-abbrev pub is_there : {A : Type 0} → Option A → Bool
-is_there (Some x) = true
-is_there None = false
-
-abbrev pub has : {A : Type 0} → (Sort → Option A) → Sort → Bool
-has table a = is_there (table a)
 
 word_sound : {A : Type 0} (table : Sort → Option A) (t : Lexeme) (ts : List Lexeme) (o : Option A) (x : A) (rest : List Lexeme) → table t.sort ≡ o → word_from o (t ∷ ts) ≡ got x rest → Worded table (t ∷ ts) x rest
 word_sound table t ts (Some y) x rest e h = let s = same_got y x ts rest h in (t, ap (λ r. t ∷ r) s.1, e ∙ ap Some s.0)
@@ -150,12 +150,15 @@ exact-worded {A} table none = record {
   complete = λ ts x rest h f.
       ap (worded table) h.1 ∙ ap (λ o. word_from o (h.0 ∷ rest)) h.2;
   lead = λ ts x rest h. inl (
-      ap (λ ts. has table (sort_at ts)) h.1 ∙ ap is_there h.2,
-      subst (λ ts. length rest < length ts) (sym h.1) (le_refl _)) }
+    ap (λ ts. has table (sort_at ts)) h.1 ∙ ap is_there h.2,
+    subst (λ ts. length rest < length ts) (sym h.1) (le_refl _),
+  );
+}
   where
     past : (o : Option A) (x : A) (rest : List Lexeme) → is_there o ≡ false → word_from o [] ≡ got x rest → Worded table [] x rest
     past (Some y) x rest e h = cc
     past None x rest e h = cc
+
     sound-worded : (ts : List Lexeme) (x : A) (rest : List Lexeme) → worded table ts ≡ got x rest → Worded table ts x rest
     sound-worded [] x rest h = past (table k.Nothing) x rest none h
     sound-worded (t ∷ ts) x rest h = word_sound table t ts (table t.sort) x rest refl h
@@ -172,12 +175,36 @@ exact-tok sort none = record {
       ap (tok sort) h.1
       ∙ ap (λ b. if b then got x (drop 1 (h.0 ∷ rest)) else None) (ap (λ a. same_sort a sort) h.2 ∙ same_self sort);
   lead = λ ts x rest h. inl (
-      ap (λ ts. same_sort (sort_at ts) sort) h.1 ∙ ap (λ a. same_sort a sort) h.2 ∙ same_self sort,
-      subst (λ ts. length rest < length ts) (sym h.1) (le_refl _)) }
+    ap (λ ts. same_sort (sort_at ts) sort) h.1 ∙ ap (λ a. same_sort a sort) h.2 ∙ same_self sort,
+    subst (λ ts. length rest < length ts) (sym h.1) (le_refl _),
+  );
+}
   where
     sound-tok : (ts : List Lexeme) (x : Unit {0}) (rest : List Lexeme) → tok sort ts ≡ got x rest → Tok sort ts x rest
     sound-tok [] x rest h = let e : None ≡ got x rest = sym (ap (λ b. if b then got tt [] else None) none) ∙ h in cc
     sound-tok (t ∷ ts) x rest h = tok_sound sort t ts (same_sort t.sort sort) x rest refl h
+
+one_sound : (sort : Sort) (t : Lexeme) (ts : List Lexeme) (b : Bool) (x : Lexeme) (rest : List Lexeme) → same_sort t.sort sort ≡ b → (if b then got t ts else None) ≡ got x rest → One sort (t ∷ ts) x rest
+one_sound sort t ts true x rest e h =
+    let s = same_got t x ts rest h in
+    (ap (λ y. y ∷ ts) s.0 ∙ ap (λ r. x ∷ r) s.1, ap (λ y. y.sort) (sym s.0) ∙ is_sort t.sort sort e)
+one_sound sort t ts false x rest e h = cc
+
+pub exact-one : (sort : Sort) → Exact false (λ a. same_sort a sort) anything (one sort) (One sort)
+unfolding one
+exact-one sort = record {
+  sound = sound-one;
+  complete = λ ts x rest h f.
+      ap (one sort) h.0 ∙ ap (λ b. if b then got x rest else None) (ap (λ a. same_sort a sort) h.1 ∙ same_self sort);
+  lead = λ ts x rest h. inl (
+    ap (λ ts. same_sort (sort_at ts) sort) h.0 ∙ ap (λ a. same_sort a sort) h.1 ∙ same_self sort,
+    subst (λ ts. length rest < length ts) (sym h.0) (le_refl _),
+  );
+}
+  where
+    sound-one : (ts : List Lexeme) (x : Lexeme) (rest : List Lexeme) → one sort ts ≡ got x rest → One sort ts x rest
+    sound-one [] x rest h = cc
+    sound-one (t ∷ ts) x rest h = one_sound sort t ts (same_sort t.sort sort) x rest refl h
 
 -- ---- the one, and then the other
 
@@ -201,6 +228,7 @@ may_follow {B} {e} {g} {G} {q} {Q} F D can ts y rest h f = go (D.lead ts y rest 
   where
     at_front : (g (sort_at ts) || (e && ahead G ts)) ≡ true → ahead F ts ≡ true
     at_front a = so _ _ (every_twice (λ a named. implies (g a || (e && G a named)) (F a named)) can (sort_at ts) (sees k.Name (drop 1 ts))) a
+
     go : ((g (sort_at ts) ≡ true) × (length rest < length ts)) ⊎ ((e ≡ true) × (rest ≡ ts)) → ahead F ts ≡ true
     go (inl a) = at_front (or_left _ _ a.0)
     go (inr a) = at_front (or_right (g (sort_at ts)) _ (both_of e _ a.0 (subst (λ ts. ahead G ts ≡ true) a.1 f)))
@@ -212,14 +240,16 @@ bind_lead {A} {B} {e} {d} {f} {g} {F} {G} {p} {P} {q} {Q} E D ts y rest h = go (
   where
     mid : List Lexeme
     mid = h.1
+
     go : ((f (sort_at ts) ≡ true) × (length h.1 < length ts)) ⊎ ((e ≡ true) × (h.1 ≡ ts))
         → ((g (sort_at h.1) ≡ true) × (length rest < length h.1)) ⊎ ((d ≡ true) × (rest ≡ h.1))
         → (((f (sort_at ts) || (e && g (sort_at ts))) ≡ true) × (length rest < length ts)) ⊎ (((e && d) ≡ true) × (rest ≡ ts))
     go (inl a) (inl b) = inl (or_left _ _ a.0, lt_trans b.1 a.1)
     go (inl a) (inr b) = inl (or_left _ _ a.0, subst (λ r. length r < length ts) (sym b.1) a.1)
     go (inr a) (inl b) = inl (
-        or_right (f (sort_at ts)) _ (both_of e _ a.0 (subst (λ m. g (sort_at m) ≡ true) a.1 b.0)),
-        subst (λ m. length rest < length m) a.1 b.1)
+      or_right (f (sort_at ts)) _ (both_of e _ a.0 (subst (λ m. g (sort_at m) ≡ true) a.1 b.0)),
+      subst (λ m. length rest < length m) a.1 b.1,
+    )
     go (inr a) (inr b) = inr (both_of e d a.0 b.0, b.1 ∙ a.1)
 
 pub exact-bind : {A B : Type 0} {e d : Bool} {f g : Sort → Bool} {F G : Sort → Bool → Bool} {p : Reads A} {P : Rule A} {q : A → Reads B} {Q : A → Rule B}
@@ -230,7 +260,8 @@ exact-bind {A} {B} {e} {d} {f} {g} {F} {G} {p} {P} {q} {Q} E D can = record {
   complete = λ ts y rest h after.
       ap (λ r. and_then r q) (E.complete ts h.0 h.1 h.2 (may_follow F (D h.0) can h.1 y rest h.3 after))
       ∙ (D h.0).complete h.1 y rest h.3 after;
-  lead = bind_lead E D }
+  lead = bind_lead E D;
+}
 
 -- fewer lexemes may follow, and it may begin with more
 pub exact-loose : {A : Type 0} {e : Bool} {f g : Sort → Bool} {F G : Sort → Bool → Bool} {p : Reads A} {P : Rule A}
@@ -239,12 +270,17 @@ exact-loose {A} {e} {f} {g} {F} {G} {p} {P} E within fewer = record {
   sound = E.sound;
   complete = λ ts x rest h after.
       E.complete ts x rest h (so _ _ (every_twice (λ a named. implies (G a named) (F a named)) fewer (sort_at rest) (sees k.Name (drop 1 rest))) after);
-  lead = λ ts x rest h. go ts rest (E.lead ts x rest h) }
+  lead = λ ts x rest h. go ts rest (E.lead ts x rest h);
+}
   where
     go : (ts rest : List Lexeme) → ((f (sort_at ts) ≡ true) × (length rest < length ts)) ⊎ ((e ≡ true) × (rest ≡ ts))
         → ((g (sort_at ts) ≡ true) × (length rest < length ts)) ⊎ ((e ≡ true) × (rest ≡ ts))
     go ts rest (inl a) = inl (so _ _ (every_sort (λ a. implies (f a) (g a)) within (sort_at ts)) a.0, a.1)
     go ts rest (inr a) = inr a
+
+-- where anything may follow, fewer lexemes may
+pub exact-any : {A : Type 0} {e : Bool} {f : Sort → Bool} {G : Sort → Bool → Bool} {p : Reads A} {P : Rule A} → Exact e f anything p P → Exact e f G p P
+exact-any E = record { sound = E.sound; complete = λ ts x rest h after. E.complete ts x rest h refl; lead = E.lead }
 
 -- the value by a function
 pub exact-map : {A B : Type 0} {e : Bool} {f : Sort → Bool} {F : Sort → Bool → Bool} {p : Reads A} {P : Rule A}
@@ -254,7 +290,8 @@ exact-map {A} {B} {e} {f} {F} {p} {P} E g = record {
   complete = λ ts y rest h after.
       ap (λ r. and_then r (λ x. reading.pure (g x))) (E.complete ts h.0 h.1 h.2 (subst (λ r. ahead F r ≡ true) h.3.1 after))
       ∙ got_same (g h.0) y h.1 rest (sym h.3.0) (sym h.3.1);
-  lead = λ ts y rest h. subst (λ r. ((f (sort_at ts) ≡ true) × (length r < length ts)) ⊎ ((e ≡ true) × (r ≡ ts))) (sym h.3.1) (E.lead ts h.0 h.1 h.2) }
+  lead = λ ts y rest h. subst (λ r. ((f (sort_at ts) ≡ true) × (length r < length ts)) ⊎ ((e ≡ true) × (r ≡ ts))) (sym h.3.1) (E.lead ts h.0 h.1 h.2);
+}
 
 -- ---- the one, or the other
 
@@ -272,19 +309,23 @@ pub exact-choose_if : {A : Type 0} {e d : Bool} {f g : Sort → Bool} {F : Sort 
 exact-choose_if {A} {e} {d} {f} {g} {F} {p} {q} {P} {Q} h E D is isnt = record {
   sound = λ ts x rest c. if_sound (h ts) (p ts) (q ts) x rest (P ts x rest) (Q ts x rest) (E.sound ts x rest) (D.sound ts x rest) c;
   complete = go;
-  lead = leads }
+  lead = leads;
+}
   where
     go : (ts : List Lexeme) (x : A) (rest : List Lexeme) → P ts x rest ⊎ Q ts x rest → ahead F rest ≡ true → choose_if h p q ts ≡ got x rest
     go ts x rest (inl a) after = ap (λ b. if b then p ts else q ts) (is ts x rest a after) ∙ E.complete ts x rest a after
     go ts x rest (inr a) after = ap (λ b. if b then p ts else q ts) (isnt ts x rest a after) ∙ D.complete ts x rest a after
+
     leftly : (ts rest : List Lexeme) → ((f (sort_at ts) ≡ true) × (length rest < length ts)) ⊎ ((e ≡ true) × (rest ≡ ts))
         → (((f (sort_at ts) || g (sort_at ts)) ≡ true) × (length rest < length ts)) ⊎ (((e || d) ≡ true) × (rest ≡ ts))
     leftly ts rest (inl a) = inl (or_left _ _ a.0, a.1)
     leftly ts rest (inr a) = inr (or_left _ _ a.0, a.1)
+
     rightly : (ts rest : List Lexeme) → ((g (sort_at ts) ≡ true) × (length rest < length ts)) ⊎ ((d ≡ true) × (rest ≡ ts))
         → (((f (sort_at ts) || g (sort_at ts)) ≡ true) × (length rest < length ts)) ⊎ (((e || d) ≡ true) × (rest ≡ ts))
     rightly ts rest (inl a) = inl (or_right (f (sort_at ts)) _ a.0, a.1)
     rightly ts rest (inr a) = inr (or_right e _ a.0, a.1)
+
     leads : (ts : List Lexeme) (x : A) (rest : List Lexeme) → P ts x rest ⊎ Q ts x rest
         → (((f (sort_at ts) || g (sort_at ts)) ≡ true) × (length rest < length ts)) ⊎ (((e || d) ≡ true) × (rest ≡ ts))
     leads ts x rest (inl a) = leftly ts rest (E.lead ts x rest a)
@@ -305,16 +346,19 @@ pub exact-optional : {A : Type 0} {f : Sort → Bool} {F : Sort → Bool → Boo
 exact-optional {A} {f} {F} {p} {P} h E within = record {
   sound = λ ts x rest c. if_sound (h (sort_at ts)) _ _ x rest _ _ ((exact-map E Some).sound ts x rest) ((exact-pure None).sound ts x rest) c;
   complete = go;
-  lead = leads }
+  lead = leads;
+}
   where
     none : (ts rest : List Lexeme) → rest ≡ ts → (ahead F rest && not (h (sort_at rest))) ≡ true → h (sort_at ts) ≡ false
     none ts rest e after = not_true _ (subst (λ r. not (h (sort_at r)) ≡ true) e (right_of (ahead F rest) _ after))
+
     some : (ts : List Lexeme) (x : A) (rest : List Lexeme) → P ts x rest → h (sort_at ts) ≡ true
     some ts x rest a = front (E.lead ts x rest a)
       where
         front : ((f (sort_at ts) ≡ true) × (length rest < length ts)) ⊎ ((false ≡ true) × (rest ≡ ts)) → h (sort_at ts) ≡ true
         front (inl b) = so _ _ (every_sort (λ a. implies (f a) (h a)) within (sort_at ts)) b.0
         front (inr b) = cc
+
     go : (ts : List Lexeme) (x : Option A) (rest : List Lexeme) → Optional P ts x rest → (ahead F rest && not (h (sort_at rest))) ≡ true → optional h p ts ≡ got x rest
     go ts x rest (inl a) after =
         ap (λ b. if b then reading.bind p (λ x. reading.pure (Some x)) ts else reading.pure None ts) (some ts a.0 a.1 a.2)
@@ -322,6 +366,7 @@ exact-optional {A} {f} {F} {p} {P} h E within = record {
     go ts x rest (inr a) after =
         ap (λ b. if b then reading.bind p (λ x. reading.pure (Some x)) ts else reading.pure None ts) (none ts rest a.1 after)
         ∙ (exact-pure None).complete ts x rest a refl
+
     leads : (ts : List Lexeme) (x : Option A) (rest : List Lexeme) → Optional P ts x rest
         → ((f (sort_at ts) ≡ true) × (length rest < length ts)) ⊎ ((true ≡ true) × (rest ≡ ts))
     leads ts x rest (inl a) = widely (exact-map E Some).lead ts x rest a
@@ -361,8 +406,10 @@ more_sound {A} h q Q qs (suc n) ts xs rest e = go (if_sound (h (sort_at ts)) _ _
       where
         made : rules_.Bind Q (λ x. rules_.Bind (Many Q) (λ xs. rules_.pure (x ∷ xs))) ts xs rest → Many Q ts xs rest
         made b = subst (λ xs. Many Q ts xs rest) (sym b.3.3.0) (b.1, b.2, subst (λ r. Many Q b.1 b.3.0 r) (sym b.3.3.1) b.3.2)
+
     stop : got [] ts ≡ got xs rest → Many Q ts xs rest
     stop a = let s = same_got [] xs ts rest a in subst (λ xs. Many Q ts xs rest) s.0 (sym s.1)
+
     go : Many Q ts xs rest ⊎ Many Q ts xs rest → Many Q ts xs rest
     go (inl a) = a
     go (inr a) = a
@@ -415,7 +462,8 @@ unfolding more
 exact-more {A} {h} {F} {q} {Q} E can = record {
   sound = λ ts xs rest e. more_sound h q Q E.sound (length ts) ts xs rest e;
   complete = λ ts xs rest m after. more_complete E can (length ts) ts xs rest m after (le_refl _);
-  lead = many_lead E }
+  lead = many_lead E;
+}
 
 -- a part, and then any number of further ones
 pub exact-joined : {A : Type 0} {f h : Sort → Bool} {F G : Sort → Bool → Bool} {p q : Reads A} {P Q : Rule A}
@@ -423,9 +471,41 @@ pub exact-joined : {A : Type 0} {f h : Sort → Bool} {F G : Sort → Bool → B
     → Exact false f (λ a named. G a named && not (h a)) (joined p h q) (Joined P Q)
 exact-joined {A} {f} {h} {F} {G} {p} {q} {P} {Q} E D can follows =
     exact-loose (exact-bind E (λ x. exact-map (exact-more D can) (λ xs. x ∷ xs)) follows)
-    (all_so (λ a. f a || (false && h a)) f (λ a. same (f a) (h a)))
+    (all_so (λ a. f a || (false && h a)) f (λ a. or_none (f a) (h a)))
     (all_so_twice (λ a named. G a named && not (h a)))
+
+-- ---- what any lexemes may follow
+
+any_may : (d : Bool) (g : Sort → Bool) (G : Sort → Bool → Bool) → may d g G anything ≡ true
+any_may d g G = in_all (λ a. implies (g a || (d && G a true)) true && implies (g a || (d && G a false)) true) sorts (λ a. both_of _ _ (always _) (always _))
   where
-    same : (a b : Bool) → implies (a || (false && b)) a ≡ true
-    same true b = refl
-    same false b = refl
+    always : (a : Bool) → implies a true ≡ true
+    always true = refl
+    always false = refl
+
+pub exact-then : {A B : Type 0} {e d : Bool} {f g : Sort → Bool} {G : Sort → Bool → Bool} {p : Reads A} {P : Rule A} {q : A → Reads B} {Q : A → Rule B}
+    → Exact e f anything p P → ((x : A) → Exact d g G (q x) (Q x))
+    → Exact (e && d) (λ a. f a || (e && g a)) G (reading.bind p q) (rules_.Bind P Q)
+exact-then {A} {B} {e} {d} {f} {g} {G} E D = exact-bind E D (any_may d g G)
+
+-- a lexeme, and then the other
+pub exact-after : {B : Type 0} {d : Bool} {g : Sort → Bool} {G : Sort → Bool → Bool} {q : Reads B} {Q : Rule B} (sort : Sort) → same_sort k.Nothing sort ≡ false
+    → Exact d g G q Q → Exact false (λ a. same_sort a sort) G (reading.bind (tok sort) (λ _. q)) (rules_.Bind (Tok sort) (λ _. Q))
+exact-after {B} {d} {g} {G} sort none D =
+    exact-loose (exact-then (exact-tok sort none) (λ _. D))
+    (all_so (λ a. same_sort a sort || (false && g a)) (λ a. same_sort a sort) (λ a. or_none (same_sort a sort) (g a)))
+    (all_so_twice G)
+
+pub exact-single : {A : Type 0} {f : Sort → Bool} {F : Sort → Bool → Bool} {p : Reads A} {P : Rule A}
+    → Exact false f F p P → may false (λ a. same_sort a k.RightParen) anything F ≡ true → Exact false (λ a. same_sort a k.LeftParen) anything (single p) (Single P)
+unfolding same_sort
+exact-single E right =
+    exact-after k.LeftParen refl (exact-bind E (λ x. exact-after k.RightParen refl (exact-pure x)) right)
+
+pub exact-pair : {A : Type 0} {f : Sort → Bool} {F : Sort → Bool → Bool} {p : Reads A} {P : Rule A}
+    → Exact false f F p P → may false (λ a. same_sort a k.Comma) F F ≡ true → may false (λ a. same_sort a k.RightParen) anything F ≡ true
+    → Exact false (λ a. same_sort a k.LeftParen) anything (pair p) (Pair P)
+unfolding same_sort
+exact-pair E comma right =
+    exact-after k.LeftParen refl
+    (exact-bind E (λ x. exact-after k.Comma refl (exact-bind E (λ y. exact-after k.RightParen refl (exact-pure (x, y))) right)) comma)

@@ -59,7 +59,7 @@ more_one h q no_part s front [] left x is e = let c : true ≡ false = sym is �
 more_one h q no_part s front (t ∷ ts) left x is e =
     in_front front x (more_from h q (length left) left)
     ∙ ap (λ r. with_front front (and_then r (λ xs. reading.pure (x ∷ xs))))
-      (same_turns h q no_part s (length left) (length ts) left (le_refl _) (below (length left) (suc (length ts)) (length ts) (s (t ∷ ts) x left e) (le_refl _)))
+    (same_turns h q no_part s (length left) (length ts) left (le_refl _) (below (length left) (suc (length ts)) (length ts) (s (t ∷ ts) x left e) (le_refl _)))
     ∙ sym (ap (λ r. with_front front (and_then r (turn h q (length ts)))) e)
     ∙ sym (ap (λ b. with_front front (if b then and_then (q (t ∷ ts)) (turn h q (length ts)) else got [] (t ∷ ts))) is)
 

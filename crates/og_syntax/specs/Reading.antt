@@ -1,7 +1,8 @@
 -- Readers, which give a value and the lexemes after it, and the steps that they are made of.
-use Rattle.std.specs.Prelude.{◌≡◌, ℕ, zero, suc, Bool, List, [], ◌∷◌, Option, Some, None, Result, Ok, Err, length, drop, ◌++◌, if◌then◌else◌}
+use Rattle.std.specs.Prelude.{◌≡◌, ℕ, zero, suc, Bool, true, false, List, [], ◌∷◌, Option, Some, None, Result, Ok, Err, length, drop, ◌++◌, if◌then◌else◌}
 use denote.Ref.{Bor}
 use Rattle.og_syntax.specs.declared.lexeme.Sort.{Sort}
+use Rattle.og_syntax.specs.declared.lexeme.Sort.TheVariants as k
 use Rattle.og_syntax.specs.declared.lexeme.Lexeme.{Lexeme}
 use Rattle.og_syntax.specs.declared.refusal.Refusal.{Refusal}
 use Rattle.og_syntax.specs.declared.refusal.Refusal.TheVariants as r
@@ -58,6 +59,20 @@ choose_if h p q = λ ts. if h ts then p ts else q ts
 unfoldable pub tok : Sort → Reads (Unit {0})
 tok sort = λ ts. if sees sort ts then Some (tt, drop 1 ts) else None
 
+-- the lexeme itself, where it is of the sort
+unfoldable pub one : Sort → Reads Lexeme
+one sort [] = None
+one sort (t ∷ ts) = if same_sort t.sort sort then Some (t, ts) else None
+
+-- whether there is a value
+abbrev pub is_there : {A : Type 0} → Option A → Bool
+is_there (Some x) = true
+is_there None = false
+
+-- whether the table gives the sort a meaning
+abbrev pub has : {A : Type 0} → (Sort → Option A) → Sort → Bool
+has table a = is_there (table a)
+
 abbrev pub word_from : {A : Type 0} → Option A → Reads A
 word_from (Some x) = λ ts. got x (drop 1 ts)
 word_from None = refuse
@@ -74,6 +89,14 @@ more_from h p (suc n) = choose h (do x ← p; xs ← more_from h p n; pure (x �
 -- parts for as long as one of these sorts comes; the count of lexemes is turns enough
 unfoldable pub more : {A : Type 0} → (Sort → Bool) → Reads A → Reads (List A)
 more h p = λ ts. more_from h p (length ts) ts
+
+-- in parentheses
+abbrev pub single : {A : Type 0} → Reads A → Reads A
+single p = do tok k.LeftParen; x ← p; tok k.RightParen; pure x
+
+-- two in parentheses, with a comma between them
+abbrev pub pair : {A : Type 0} → Reads A → Reads (A × A)
+pair p = do tok k.LeftParen; x ← p; tok k.Comma; y ← p; tok k.RightParen; pure (x, y)
 
 -- a part, and then further ones for as long as one of these sorts comes
 abbrev pub joined : {A : Type 0} → Reads A → (Sort → Bool) → Reads A → Reads (List A)

@@ -1,6 +1,7 @@
 -- Rules of a grammar, which relate lexemes to a value and to the lexemes after it, and the steps that they are made of.
 use Rattle.std.specs.Prelude.{◌≡◌, ◌⊎◌, List, [], ◌∷◌, Option, Some, None}
 use Rattle.og_syntax.specs.declared.lexeme.Sort.{Sort}
+use Rattle.og_syntax.specs.declared.lexeme.Sort.TheVariants as k
 use Rattle.og_syntax.specs.declared.lexeme.Lexeme.{Lexeme}
 
 abbrev pub Rule : Type 0 → Type 1
@@ -39,6 +40,10 @@ Never = λ ts x rest. ⊥
 abbrev pub Tok : Sort → Rule (Unit {0})
 Tok sort = λ ts x rest. (t : Lexeme) × (ts ≡ t ∷ rest) × (t.sort ≡ sort)
 
+-- the lexeme itself, of the sort
+abbrev pub One : Sort → Rule Lexeme
+One sort = λ ts x rest. (ts ≡ x ∷ rest) × (x.sort ≡ sort)
+
 -- a lexeme with a meaning
 abbrev pub Worded : {A : Type 0} → (Sort → Option A) → Rule A
 Worded table = λ ts x rest. (t : Lexeme) × (ts ≡ t ∷ rest) × (table t.sort ≡ Some x)
@@ -55,3 +60,11 @@ Joined P Q = do x ← P; xs ← Many Q; pure (x ∷ xs)
 -- a part, or nothing
 abbrev pub Optional : {A : Type 0} → Rule A → Rule (Option A)
 Optional P = (do x ← P; pure (Some x)) or pure None
+
+-- in parentheses
+abbrev pub Single : {A : Type 0} → Rule A → Rule A
+Single P = do Tok k.LeftParen; x ← P; Tok k.RightParen; pure x
+
+-- two in parentheses, with a comma between them
+abbrev pub Pair : {A : Type 0} → Rule A → Rule (A × A)
+Pair P = do Tok k.LeftParen; x ← P; Tok k.Comma; y ← P; Tok k.RightParen; pure (x, y)

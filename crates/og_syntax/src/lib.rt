@@ -1,12 +1,18 @@
 //! What a script says: its trees, and the grammar of expressions, conditions and queries.
 #![tactic(auto)]
 
+mod expressions;
 mod lexeme;
+mod literals;
+mod meaning;
 mod refusal;
+mod spelling;
 mod step;
 mod tree;
 
+pub use expressions::expression;
 pub use lexeme::{Lexeme, Sort};
+pub use literals::literal;
 pub use refusal::Refusal;
 pub use tree::{
     CondText, CoreText, ExprText, FromText, ItemText, ItemsText, QueryText, RestText, Script,

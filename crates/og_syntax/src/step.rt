@@ -1,7 +1,7 @@
 //! The steps of reading lexemes.
 ghost use Rattle.std.specs.Prelude.{◌≡◌, drop};
 ghost use Rattle.og_syntax.specs.Lexemes.{same_sort, sort_at, sees};
-ghost use Rattle.og_syntax.specs.Reading.{Passes, tok};
+ghost use Rattle.og_syntax.specs.Reading.{Gives, Passes, one, tok};
 
 use crate::lexeme::{Lexeme, Sort};
 use crate::refusal::Refusal;
@@ -51,5 +51,22 @@ pub fn expect(lexemes: &[Lexeme], sort: Sort) -> Result<&[Lexeme], Refusal>
         Ok(after(lexemes))
     } else {
         Err(Refusal::Syntax)
+    }
+}
+
+// The first lexeme, where it is of that sort, and those after it.
+#[tactic(auto, unfolding(crate::specs::Reading::one))]
+pub fn one(lexemes: &[Lexeme], sort: Sort) -> Result<(Lexeme, &[Lexeme]), Refusal>
+    ensures { Gives result (one sort lexemes.now) }
+{
+    match lexemes.split_first() {
+        Some((lexeme, rest)) => {
+            if same_sort(lexeme.sort, sort) {
+                Ok((*lexeme, rest))
+            } else {
+                Err(Refusal::Syntax)
+            }
+        }
+        None => Err(Refusal::Syntax),
     }
 }

@@ -1,0 +1,142 @@
+-- Each reader of names, texts and literals is its rule.
+use Rattle.std.proofs.Common.{◌≡◌, ◌⊎◌, inl, inr, ◌||◌, ℕ, ℤ, Bool, true, false, List, Option, Some, None, if◌then◌else◌, refl, sym, ap, ◌∙◌, IsUtf8}
+use Rattle.std.specs.Str.{is_utf8}
+use Rattle.std.proofs.lemmas.Str.{IsUtf8-from_is_utf8, is_utf8-from_IsUtf8}
+use Rattle.std.proofs.lemmas.Option.{same_Some}
+use Rattle.og_time.specs.Point.{Point}
+use Rattle.og_time.specs.Period.{Period}
+use Rattle.og_value.specs.Words.{is_word, folded}
+use Rattle.og_value.specs.declared.value.Value.{Value}
+use Rattle.og_value.specs.declared.value.Value.TheVariants as v
+use Rattle.og_syntax.specs.declared.lexeme.Sort.{Sort}
+use Rattle.og_syntax.specs.declared.lexeme.Sort.TheVariants as k
+use Rattle.og_syntax.specs.declared.lexeme.Lexeme.{Lexeme}
+use Rattle.og_syntax.specs.Lexemes.{same_sort}
+use Rattle.og_syntax.specs.Reading.{got, and_then, given}
+use Rattle.og_syntax.specs.Spans.{spelling, content, IsNameOf, name_of, IsTextOf, text_of, IsDayValue, day_value_from, IsPointValue, point_value_from, IsPeriodValue, period_value_from, IsOfForm, of_form}
+use Rattle.og_syntax.specs.TextValues.{day_of, point_of, period_of}
+use Rattle.og_syntax.specs.Reader.{is, name, quoted, text, day_lit, point_lit, period_lit, lit}
+use Rattle.og_syntax.specs.Grammar.{IsName, IsQuoted, IsText, IsDayLit, IsPointLit, IsPeriodLit, IsLit}
+use Rattle.og_syntax.proofs.TextValues.{day_of-sound, day_of-complete, point_of-sound, point_of-complete, period_of-sound, period_of-complete}
+use Rattle.og_syntax.proofs.Exact.{Exact, anything, exact-given, exact-one, exact-then, exact-after, exact-map, exact-loose, exact-choose}
+
+name_right : (word x : List ℕ) → name_of word ≡ Some x → IsNameOf word x
+name_right word x e = go (is_word word) refl e
+  where
+    go : (b : Bool) → is_word word ≡ b → (if b then Some (folded word) else None) ≡ Some x → IsNameOf word x
+    go true h e = (h, sym (same_Some (folded word) x e))
+    go false h e = cc
+
+name_left : (word x : List ℕ) → IsNameOf word x → name_of word ≡ Some x
+name_left word x h = ap (λ b. if b then Some (folded word) else None) h.0 ∙ ap Some (sym h.1)
+
+pub exact-name : (script : List ℕ) → Exact false (is k.Name) anything (name script) (IsName script)
+unfolding name IsName same_sort
+exact-name script =
+    exact-loose
+    (exact-then (exact-one k.Name) (λ t. exact-given (name_of (spelling script t)) (IsNameOf (spelling script t)) (name_right (spelling script t)) (name_left (spelling script t))))
+    refl refl
+
+pub exact-quoted : (script : List ℕ) → Exact false (is k.Quoted) anything (quoted script) (IsQuoted script)
+unfolding quoted IsQuoted
+exact-quoted script = exact-map (exact-one k.Quoted) (content script)
+
+text_right : (bytes x : List ℕ) → text_of bytes ≡ Some x → IsTextOf bytes x
+text_right bytes x e = go (is_utf8 bytes) refl e
+  where
+    go : (b : Bool) → is_utf8 bytes ≡ b → (if b then Some bytes else None) ≡ Some x → IsTextOf bytes x
+    go true h e = (IsUtf8-from_is_utf8 bytes h, sym (same_Some bytes x e))
+    go false h e = cc
+
+text_left : (bytes x : List ℕ) → IsTextOf bytes x → text_of bytes ≡ Some x
+text_left bytes x h = ap (λ b. if b then Some bytes else None) (is_utf8-from_IsUtf8 bytes h.0) ∙ ap Some (sym h.1)
+
+pub exact-text : (script : List ℕ) → Exact false (is k.Quoted) anything (text script) (IsText script)
+unfolding text IsText same_sort
+exact-text script = exact-loose (exact-then (exact-quoted script) (λ z. exact-given (text_of z) (IsTextOf z) (text_right z) (text_left z))) refl refl
+
+-- ---- quoted texts of a form
+
+form_right : (strict : Bool) (R : List ℕ → Value → Type 0) (z : List ℕ) (o : Option Value) (x : Value) → (o ≡ Some x → R z x) → of_form strict o ≡ Some x → IsOfForm strict R z x
+form_right true R z o x right e = right e
+form_right false R z o x right e = sym (same_Some _ x e)
+
+form_left : (strict : Bool) (R : List ℕ → Value → Type 0) (z : List ℕ) (o : Option Value) (x : Value) → (R z x → o ≡ Some x) → IsOfForm strict R z x → of_form strict o ≡ Some x
+form_left true R z o x left h = left h
+form_left false R z o x left h = ap Some (sym h)
+
+day_right : (z : List ℕ) (x : Value) → day_value_from (day_of z) ≡ Some x → IsDayValue z x
+day_right z x e = go (day_of z) refl e
+  where
+    go : (o : Option ℤ) → day_of z ≡ o → day_value_from o ≡ Some x → IsDayValue z x
+    go (Some n) h e = (n, day_of-sound z n h, sym (same_Some _ x e))
+    go None h e = cc
+
+day_left : (z : List ℕ) (x : Value) → IsDayValue z x → day_value_from (day_of z) ≡ Some x
+day_left z x h = ap day_value_from (day_of-complete z h.0 h.1) ∙ ap Some (sym h.2)
+
+point_right : (z : List ℕ) (x : Value) → point_value_from (point_of z) ≡ Some x → IsPointValue z x
+point_right z x e = go (point_of z) refl e
+  where
+    go : (o : Option Point) → point_of z ≡ o → point_value_from o ≡ Some x → IsPointValue z x
+    go (Some p) h e = (p, point_of-sound z p h, sym (same_Some _ x e))
+    go None h e = cc
+
+point_left : (z : List ℕ) (x : Value) → IsPointValue z x → point_value_from (point_of z) ≡ Some x
+point_left z x h = ap point_value_from (point_of-complete z h.0 h.1) ∙ ap Some (sym h.2)
+
+period_right : (z : List ℕ) (x : Value) → period_value_from (period_of z) ≡ Some x → IsPeriodValue z x
+period_right z x e = go (period_of z) refl e
+  where
+    go : (o : Option Period) → period_of z ≡ o → period_value_from o ≡ Some x → IsPeriodValue z x
+    go (Some i) h e = (i, period_of-sound z i h, sym (same_Some _ x e))
+    go None h e = cc
+
+period_left : (z : List ℕ) (x : Value) → IsPeriodValue z x → period_value_from (period_of z) ≡ Some x
+period_left z x h = ap period_value_from (period_of-complete z h.0 h.1) ∙ ap Some (sym h.2)
+
+pub exact-day_lit : (script : List ℕ) (strict : Bool) → Exact false (is k.Date) anything (day_lit script strict) (IsDayLit script strict)
+unfolding day_lit IsDayLit same_sort
+exact-day_lit script strict =
+    exact-after k.Date refl (exact-then (exact-quoted script) (λ z. exact-given (of_form strict (day_value_from (day_of z))) (IsOfForm strict IsDayValue z)
+    (λ x. form_right strict IsDayValue z _ x (day_right z x)) (λ x. form_left strict IsDayValue z _ x (day_left z x))))
+
+pub exact-point_lit : (script : List ℕ) (strict : Bool) → Exact false (is k.Ongoing) anything (point_lit script strict) (IsPointLit script strict)
+unfolding point_lit IsPointLit same_sort
+exact-point_lit script strict =
+    exact-after k.Ongoing refl (exact-then (exact-quoted script) (λ z. exact-given (of_form strict (point_value_from (point_of z))) (IsOfForm strict IsPointValue z)
+    (λ x. form_right strict IsPointValue z _ x (point_right z x)) (λ x. form_left strict IsPointValue z _ x (point_left z x))))
+
+pub exact-period_lit : (script : List ℕ) (strict : Bool) → Exact false (is k.Period) anything (period_lit script strict) (IsPeriodLit script strict)
+unfolding period_lit IsPeriodLit same_sort
+exact-period_lit script strict =
+    exact-after k.Period refl (exact-then (exact-quoted script) (λ z. exact-given (of_form strict (period_value_from (period_of z))) (IsOfForm strict IsPeriodValue z)
+    (λ x. form_right strict IsPeriodValue z _ x (period_right z x)) (λ x. form_left strict IsPeriodValue z _ x (period_left z x))))
+
+abbrev pub lit_begins : Sort → Bool
+lit_begins a = is k.Number a || is k.Quoted a || is k.Date a || is k.Ongoing a || is k.Period a
+
+pub exact-lit : (script : List ℕ) (strict : Bool) → Exact false lit_begins anything (lit script strict) (IsLit script strict)
+unfolding lit IsLit same_sort
+exact-lit script strict =
+    exact-loose
+    (exact-choose (is k.Number) (exact-map (exact-one k.Number) (λ t. v.Int t.number))
+    (exact-choose (is k.Quoted) (exact-map (exact-text script) v.Text)
+    (exact-choose (is k.Date) (exact-day_lit script strict)
+    (exact-choose (is k.Ongoing) (exact-point_lit script strict) (exact-period_lit script strict) refl refl) refl refl) refl refl) refl refl)
+    refl refl
+
+-- ---- the text of what stands between quotes
+
+pub text_read : (script : List ℕ) (ts : List Lexeme) (z x : List ℕ) (rest : List Lexeme) → quoted script ts ≡ got z rest → x ≡ z → IsUtf8 z → text script ts ≡ got x rest
+unfolding text
+text_read script ts z x rest e same utf8 =
+    ap (λ r. and_then r (λ z. given (text_of z))) e ∙ ap (λ o. given o rest) (text_left z x (utf8, same))
+
+pub no_text_read : (script : List ℕ) (ts : List Lexeme) (z : List ℕ) (rest : List Lexeme) → quoted script ts ≡ got z rest → (IsUtf8 z → ⊥) → text script ts ≡ None
+unfolding text
+no_text_read script ts z rest e bad = ap (λ r. and_then r (λ z. given (text_of z))) e ∙ go (text_of z) refl
+  where
+    go : (o : Option (List ℕ)) → text_of z ≡ o → given o rest ≡ None
+    go (Some x) h = absurd (bad (text_right z x h).0)
+    go None h = refl

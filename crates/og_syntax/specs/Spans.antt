@@ -1,0 +1,75 @@
+-- What the bytes of a lexeme write.
+use Rattle.std.specs.Prelude.{◌≡◌, ◌-◌, ◌==◌, ◌&&◌, ℕ, ℤ, pos, Bool, true, false, List, [], ◌∷◌, Option, Some, None, take, drop, length, IsUtf8, if◌then◌else◌}
+use Rattle.std.specs.Str.{is_utf8}
+use Rattle.og_base.specs.Calendar.{IsDayText}
+use Rattle.og_time.specs.Point.{Point, IsPointText}
+use Rattle.og_time.specs.Period.{Period, IsPeriodText}
+use Rattle.og_value.specs.Words.{is_word, folded}
+use Rattle.og_value.specs.declared.value.Value.{Value}
+use Rattle.og_value.specs.declared.value.Value.TheVariants as v
+use Rattle.og_syntax.specs.declared.lexeme.Lexeme.{Lexeme}
+use Rattle.og_syntax.specs.TextValues.{day_of, point_of, period_of}
+
+-- the bytes of a lexeme
+unfoldable pub spelling : List ℕ → Lexeme → List ℕ
+spelling script t = take (t.end - t.start) (drop t.start script)
+
+-- with the second quote of each pair of quotes left out
+abbrev pub singled : Bool → List ℕ → List ℕ
+singled is_second [] = []
+singled is_second (b ∷ z) = if is_second && (b == 39) then singled false z else b ∷ singled (b == 39) z
+
+-- the bytes between the first one and the last one
+abbrev pub inside : List ℕ → List ℕ
+inside z = take (length z - 2) (drop 1 z)
+
+-- what stands between the quotes of a lexeme
+unfoldable pub content : List ℕ → Lexeme → List ℕ
+content script t = singled false (inside (spelling script t))
+
+-- the name of a word, in lower case
+abbrev pub IsNameOf : List ℕ → List ℕ → Type 0
+IsNameOf word x = (is_word word ≡ true) × (x ≡ folded word)
+
+abbrev pub name_of : List ℕ → Option (List ℕ)
+name_of word = if is_word word then Some (folded word) else None
+
+-- the text of bytes in UTF-8
+abbrev pub IsTextOf : List ℕ → List ℕ → Type 0
+IsTextOf bytes x = IsUtf8 bytes × (x ≡ bytes)
+
+abbrev pub text_of : List ℕ → Option (List ℕ)
+text_of bytes = if is_utf8 bytes then Some bytes else None
+
+-- the fixed point of a day text
+abbrev pub IsDayValue : List ℕ → Value → Type 0
+IsDayValue text x = (n : ℤ) × IsDayText text n × (x ≡ v.Point (record { low = n; high = n }))
+
+abbrev pub day_value_from : Option ℤ → Option Value
+day_value_from (Some n) = Some (v.Point (record { low = n; high = n }))
+day_value_from None = None
+
+-- the point of a point text
+abbrev pub IsPointValue : List ℕ → Value → Type 0
+IsPointValue text x = (p : Point) × IsPointText text p × (x ≡ v.Point p)
+
+abbrev pub point_value_from : Option Point → Option Value
+point_value_from (Some p) = Some (v.Point p)
+point_value_from None = None
+
+-- the period of a period text
+abbrev pub IsPeriodValue : List ℕ → Value → Type 0
+IsPeriodValue text x = (i : Period) × IsPeriodText text i × (x ≡ v.Period i)
+
+abbrev pub period_value_from : Option Period → Option Value
+period_value_from (Some i) = Some (v.Period i)
+period_value_from None = None
+
+-- the value of a quoted text; where texts need not be of their form, a number stands for each of them
+abbrev pub IsOfForm : Bool → (List ℕ → Value → Type 0) → List ℕ → Value → Type 0
+IsOfForm true R text x = R text x
+IsOfForm false R text x = x ≡ v.Int (pos 0)
+
+abbrev pub of_form : Bool → Option Value → Option Value
+of_form true value = value
+of_form false value = Some (v.Int (pos 0))

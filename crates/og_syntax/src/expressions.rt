@@ -1,0 +1,171 @@
+//! Expressions.
+ghost use Rattle.std.specs.Prelude.{◌≡◌, ◌&&◌, [], ◌∷◌, drop, Some, IfOk, OnErr};
+ghost use Rattle.og_syntax.specs.Lexemes.{sees};
+ghost use Rattle.og_syntax.specs.Reading.{Gives, pair, single, optional, ◌>>◌, tok};
+ghost use Rattle.og_syntax.specs.Reader as spec;
+
+use crate::lexeme::{Lexeme, Sort};
+use crate::literals::literal;
+use crate::meaning::{func_of_one, func_of_two};
+use crate::refusal::Refusal;
+use crate::spelling::name;
+use crate::step::{after, expect, same_sort, sees, sort_at};
+use crate::tree::ExprText;
+use og_value::{Func, Name};
+use sqlite_items::Items;
+use std::alloc::{AllocError, Global};
+
+/// The expression that the lexemes begin with, and the lexemes after it.
+#[tactic(auto, unfolding(crate::specs::Reader::expr))]
+pub fn expression<'a>(
+    alloc: Global,
+    script: &[u8],
+    strict: bool,
+    lexemes: &'a [Lexeme],
+) -> Result<(ExprText, &'a [Lexeme]), Refusal>
+    ensures { Gives result (spec.expr script.now strict lexemes.now) }
+{
+    expression_in(alloc, script, strict, lexemes, lexemes.len())
+}
+
+// An expression nested no deeper than the number.
+#[cycle(expressions)]
+#[tactic(auto, unfolding(crate::specs::Reader::expr_in, crate::specs::Reading::worded))]
+fn expression_in<'a>(
+    alloc: Global,
+    script: &[u8],
+    strict: bool,
+    lexemes: &'a [Lexeme],
+    depth: usize,
+) -> Result<(ExprText, &'a [Lexeme]), Refusal>
+    ensures { Gives result (spec.expr_in script.now strict depth lexemes.now) }
+{
+    if depth == 0 {
+        return Err(Refusal::Syntax);
+    }
+    let sort = sort_at(lexemes);
+    if same_sort(sort, Sort::Name) {
+        return column(alloc, script, lexemes);
+    }
+    if let Some(func) = func_of_two(sort) {
+        let ((left, right), rest) = two_in(alloc, script, strict, after(lexemes), depth - 1)?;
+        let args = list_of_two(alloc, left, right)?;
+        return Ok((ExprText::Call { func, args }, rest));
+    }
+    if let Some(func) = func_of_one(sort) {
+        let (only, rest) = one_in(alloc, script, strict, after(lexemes), depth - 1)?;
+        let args = list_of_one(alloc, only)?;
+        return Ok((ExprText::Call { func, args }, rest));
+    }
+    if calls_period(lexemes) {
+        let rest = expect(lexemes, Sort::Period)?;
+        let ((left, right), rest) = two_in(alloc, script, strict, rest, depth - 1)?;
+        let args = list_of_two(alloc, left, right)?;
+        return Ok((
+            ExprText::Call {
+                func: Func::Period,
+                args,
+            },
+            rest,
+        ));
+    }
+    let (value, rest) = literal(alloc, script, strict, lexemes)?;
+    Ok((ExprText::Lit(value), rest))
+}
+
+// Two expressions in parentheses.
+#[cycle(expressions)]
+fn two_in<'a>(
+    alloc: Global,
+    script: &[u8],
+    strict: bool,
+    lexemes: &'a [Lexeme],
+    depth: usize,
+) -> Result<((ExprText, ExprText), &'a [Lexeme]), Refusal>
+    ensures { Gives result (pair (spec.expr_in script.now strict depth) lexemes.now) }
+{
+    let rest = expect(lexemes, Sort::LeftParen)?;
+    let (left, rest) = expression_in(alloc, script, strict, rest, depth)?;
+    let rest = expect(rest, Sort::Comma)?;
+    let (right, rest) = expression_in(alloc, script, strict, rest, depth)?;
+    let rest = expect(rest, Sort::RightParen)?;
+    Ok(((left, right), rest))
+}
+
+// An expression in parentheses.
+#[cycle(expressions)]
+fn one_in<'a>(
+    alloc: Global,
+    script: &[u8],
+    strict: bool,
+    lexemes: &'a [Lexeme],
+    depth: usize,
+) -> Result<(ExprText, &'a [Lexeme]), Refusal>
+    ensures { Gives result (single (spec.expr_in script.now strict depth) lexemes.now) }
+{
+    let rest = expect(lexemes, Sort::LeftParen)?;
+    let (only, rest) = expression_in(alloc, script, strict, rest, depth)?;
+    let rest = expect(rest, Sort::RightParen)?;
+    Ok((only, rest))
+}
+
+// The list of both.
+fn list_of_two(
+    alloc: Global,
+    left: ExprText,
+    right: ExprText,
+) -> Result<Items<ExprText>, AllocError>
+    ensures { IfOk result (λ all. all ≡ left ∷ right ∷ []) }
+{
+    let mut all = Items::new(alloc);
+    all.push(left)?;
+    all.push(right)?;
+    Ok(all)
+}
+
+// The list of the one.
+fn list_of_one(alloc: Global, only: ExprText) -> Result<Items<ExprText>, AllocError>
+    ensures { IfOk result (λ all. all ≡ only ∷ []) }
+{
+    let mut all = Items::new(alloc);
+    all.push(only)?;
+    Ok(all)
+}
+
+// Whether PERIOD comes and begins a call.
+#[tactic(auto, unfolding(crate::specs::Reader::calls_period))]
+fn calls_period(lexemes: &[Lexeme]) -> bool
+    ensures { result ≡ spec.calls_period lexemes.now }
+{
+    sees(lexemes, Sort::Period) && sees(after(lexemes), Sort::LeftParen)
+}
+
+// A column, by its name or by its table's name and its own.
+#[tactic(auto, unfolding(crate::specs::Reader::column))]
+fn column<'a>(
+    alloc: Global,
+    script: &[u8],
+    lexemes: &'a [Lexeme],
+) -> Result<(ExprText, &'a [Lexeme]), Refusal>
+    ensures { Gives result (spec.column script.now lexemes.now) }
+{
+    let (first, rest) = name(alloc, script, lexemes)?;
+    if same_sort(sort_at(rest), Sort::Dot) {
+        let rest = expect(rest, Sort::Dot)?;
+        let (second, rest) = name(alloc, script, rest)?;
+        return Ok((
+            ExprText::Column {
+                table: Some(first),
+                name: second,
+            },
+            rest,
+        ));
+    }
+    Ok((
+        ExprText::Column {
+            table: None,
+            name: first,
+        },
+        rest,
+    ))
+}

@@ -1,0 +1,121 @@
+//! Names and texts, by the bytes of their lexemes.
+ghost use Rattle.std.specs.Prelude.{◌≡◌, IfOk, false, take, drop};
+ghost use Rattle.og_syntax.specs.Reading.{Gives};
+ghost use Rattle.og_syntax.specs.Reader as spec;
+ghost use Rattle.og_syntax.specs.Spans as spans;
+
+use crate::lexeme::{Lexeme, Sort};
+use crate::refusal::Refusal;
+use crate::step::one;
+use og_base::NoMemory;
+use og_value::{Name, NameRefusal, Text, TextRefusal};
+use sqlite_items::Items;
+use std::alloc::Global;
+
+// The bytes of the lexeme.
+#[tactic(auto, unfolding(crate::specs::Spans::spelling))]
+fn spelling(script: &[u8], lexeme: Lexeme) -> &[u8]
+    ensures { result.now ≡ spans.spelling script.now lexeme }
+{
+    let rest = after_bytes(script, lexeme.start);
+    front_bytes(rest, lexeme.end.saturating_sub(lexeme.start))
+}
+
+// The bytes after so many of them.
+fn after_bytes(bytes: &[u8], count: usize) -> &[u8]
+    ensures { result.now ≡ drop count bytes.now }
+{
+    if count >= bytes.len() {
+        return &bytes[bytes.len()..];
+    }
+    &bytes[count..]
+}
+
+// So many of the first bytes.
+fn front_bytes(bytes: &[u8], count: usize) -> &[u8]
+    ensures { result.now ≡ take count bytes.now }
+{
+    if count >= bytes.len() {
+        return bytes;
+    }
+    &bytes[..count]
+}
+
+// What stands between the quotes of the lexeme.
+#[tactic(auto, unfolding(crate::specs::Spans::content))]
+fn content(alloc: Global, script: &[u8], lexeme: Lexeme) -> Result<Vec<u8>, NoMemory>
+    ensures { IfOk result (λ z. z.items ≡ spans.content script.now lexeme) }
+{
+    singled(alloc, inside(spelling(script, lexeme)))
+}
+
+// The bytes between the first one and the last one.
+fn inside(bytes: &[u8]) -> &[u8]
+    ensures { result.now ≡ spans.inside bytes.now }
+{
+    front_bytes(after_bytes(bytes, 1), bytes.len().saturating_sub(2))
+}
+
+// The bytes with the second quote of each pair of quotes left out.
+fn singled(alloc: Global, bytes: &[u8]) -> Result<Vec<u8>, NoMemory>
+    ensures { IfOk result (λ z. z.items ≡ spans.singled false bytes.now) }
+{
+    let mut out = Vec::new(alloc);
+    let mut is_second = false;
+    'bytes: for byte in bytes {
+        if is_second && *byte == b'\'' {
+            is_second = false;
+        } else {
+            out.push(*byte)?;
+            is_second = *byte == b'\'';
+        }
+    }
+    Ok(out)
+}
+
+/// The name that the lexemes begin with, in lower case, and the lexemes after it.
+#[tactic(auto, unfolding(crate::specs::Reader::name))]
+pub fn name<'a>(
+    alloc: Global,
+    script: &[u8],
+    lexemes: &'a [Lexeme],
+) -> Result<(Name, &'a [Lexeme]), Refusal>
+    ensures { Gives result (spec.name script.now lexemes.now) }
+{
+    let (lexeme, rest) = one(lexemes, Sort::Name)?;
+    match Name::of(alloc, spelling(script, lexeme)) {
+        Ok(name) => Ok((name, rest)),
+        Err(NameRefusal::NotAName) => Err(Refusal::Syntax),
+        Err(NameRefusal::NoMemory) => Err(Refusal::NoMemory),
+    }
+}
+
+// What stands between the quotes that the lexemes begin with.
+#[tactic(auto, unfolding(crate::specs::Reader::quoted))]
+pub fn quoted<'a>(
+    alloc: Global,
+    script: &[u8],
+    lexemes: &'a [Lexeme],
+) -> Result<(Items<u8>, &'a [Lexeme]), Refusal>
+    ensures { Gives result (spec.quoted script.now lexemes.now) }
+{
+    let (lexeme, rest) = one(lexemes, Sort::Quoted)?;
+    Ok((Items::from_vec(content(alloc, script, lexeme)?), rest))
+}
+
+/// The text that the lexemes begin with, and the lexemes after it.
+#[tactic(auto, unfolding(crate::specs::Reader::text))]
+pub fn text<'a>(
+    alloc: Global,
+    script: &[u8],
+    lexemes: &'a [Lexeme],
+) -> Result<(Text, &'a [Lexeme]), Refusal>
+    ensures { Gives result (spec.text script.now lexemes.now) }
+{
+    let (bytes, rest) = quoted(alloc, script, lexemes)?;
+    match Text::of(alloc, bytes.as_slice()) {
+        Ok(text) => Ok((text, rest)),
+        Err(TextRefusal::NotText) => Err(Refusal::Syntax),
+        Err(TextRefusal::NoMemory) => Err(Refusal::NoMemory),
+    }
+}
