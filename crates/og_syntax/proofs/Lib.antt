@@ -1,3 +1,4 @@
+pub mod ConditionRules
 pub mod EverySort
 pub mod Exact
 pub mod ExpressionRules

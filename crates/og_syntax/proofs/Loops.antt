@@ -1,11 +1,13 @@
 -- The turns of a loop that reads parts.
-use Rattle.std.proofs.Common.{◌≡◌, ◌⊎◌, inl, inr, ℕ, zero, suc, ◌≤◌, ◌<◌, Bool, true, false, if◌then◌else◌, List, [], ◌∷◌, ◌++◌, length, drop, Option, Some, None, refl, sym, ap, ◌∙◌, subst, le_refl, arith, append_assoc, append-nil}
+use Rattle.std.proofs.Common.{◌≡◌, ◌⊎◌, inl, inr, ℕ, zero, suc, ◌≤◌, ◌<◌, Bool, true, false, if◌then◌else◌, List, [], ◌∷◌, ◌++◌, length, drop, Option, Some, None, Err, refl, sym, ap, ◌∙◌, subst, le_refl, arith, append_assoc, append-nil}
 use Rattle.og_syntax.specs.declared.lexeme.Sort.{Sort}
 use Rattle.og_syntax.specs.declared.lexeme.Sort.TheVariants as k
 use Rattle.og_syntax.specs.declared.lexeme.Lexeme.{Lexeme}
-use Rattle.og_syntax.specs.Lexemes.{sort_at}
+use Rattle.og_syntax.specs.declared.refusal.Refusal.{Refusal}
+use Rattle.og_syntax.specs.declared.refusal.Refusal.TheVariants as r
+use Rattle.og_syntax.specs.Lexemes.{same_sort, sort_at, sees}
 use Rattle.og_syntax.specs.Reading as reading
-use Rattle.og_syntax.specs.Reading.{Reads, Outcome, got, and_then, more_from, more, with_front}
+use Rattle.og_syntax.specs.Reading.{Reads, Outcome, got, and_then, tok, past, more_from, more, with_front, Gives}
 use Rattle.og_syntax.specs.Rules.{Rule}
 use Rattle.og_syntax.proofs.Exact.{Exact, shrinks}
 
@@ -79,3 +81,55 @@ part_fails h q no_part front [] is e = let c : true ≡ false = sym is ∙ no_pa
 part_fails h q no_part front (t ∷ ts) is e =
     ap (λ b. with_front front (if b then and_then (q (t ∷ ts)) (turn h q (length ts)) else got [] (t ∷ ts))) is
     ∙ ap (λ r. with_front front (and_then r (turn h q (length ts)))) e
+
+-- a lexeme of the sort is there, and so what comes after it is what is read
+pub tok_then : {A : Type 0} (sort : Sort) (q : Reads A) (ts : List Lexeme) → same_sort (sort_at ts) sort ≡ true → reading.bind (tok sort) (λ _. q) ts ≡ q (drop 1 ts)
+unfolding tok sees
+tok_then sort q ts is = ap (λ b. and_then (if b then Some (tt, drop 1 ts) else None) (λ _. q)) is
+
+-- ---- a loop over parts that are read by one reader
+
+-- a part takes a lexeme, and none begins where there is no lexeme
+pub record IsPart {A : Type 0} (h : Sort → Bool) (q : Reads A) : Type 0 where
+  pub none : h k.Nothing ≡ false
+  pub smaller : Shrinking q
+
+pub is_part : {A : Type 0} {h : Sort → Bool} {F : Sort → Bool → Bool} {q : Reads A} {Q : Rule A} → h k.Nothing ≡ false → Exact false h F q Q → IsPart h q
+is_part none E = record { none = none; smaller = shrinking E }
+
+-- the invariant after one more part
+pub one_more : {A : Type 0} (h : Sort → Bool) (q : Reads A) → IsPart h q → (front now : List A) (ts left : List Lexeme) (x : A) (whole : Outcome (List A))
+    → now ≡ front ++ x ∷ [] → h (sort_at ts) ≡ true → q ts ≡ got x left → with_front front (more h q ts) ≡ whole → with_front now (more h q left) ≡ whole
+one_more h q p front now ts left x whole e is read before =
+    ap (λ xs. with_front xs (more h q left)) e ∙ more_one h q p.none p.smaller front ts left x is read ∙ before
+
+-- what is given after the last part
+pub all_read : {A : Type 0} (h : Sort → Bool) (q : Reads A) (front : List A) (ts : List Lexeme) (whole : Outcome (List A))
+    → h (sort_at ts) ≡ false → with_front front (more h q ts) ≡ whole → whole ≡ got front ts
+all_read h q front ts whole no_part before = sym before ∙ more_done h q front ts no_part
+
+-- what is given where a part is not read
+pub not_read : {A : Type 0} (h : Sort → Bool) (q : Reads A) → IsPart h q → (front : List A) (ts : List Lexeme) (whole : Outcome (List A)) (why : Refusal)
+    → h (sort_at ts) ≡ true → with_front front (more h q ts) ≡ whole → Gives {A = A} (Err why) (q ts) → Gives {A = List A} (Err why) whole
+not_read h q p front ts whole r.NoMemory is before g = tt
+not_read h q p front ts whole r.Syntax is before g = sym before ∙ part_fails h q p.none front ts is g
+
+-- the same of parts that come after a lexeme of the sort
+abbrev pub after_sort : Sort → Sort → Bool
+after_sort sort a = same_sort a sort
+
+pub smaller_past : {A : Type 0} (sort : Sort) (q : Reads A) → IsPart (after_sort sort) (past sort q) → (ts next left : List Lexeme) (x : A)
+    → same_sort (sort_at ts) sort ≡ true → next ≡ drop 1 ts → q next ≡ got x left → length left < length ts
+smaller_past sort q p ts next left x is e read = p.smaller ts x left (tok_then sort q ts is ∙ ap q (sym e) ∙ read)
+
+pub one_more_past : {A : Type 0} (sort : Sort) (q : Reads A) → IsPart (after_sort sort) (past sort q) → (front now : List A) (ts next left : List Lexeme) (x : A) (whole : Outcome (List A))
+    → now ≡ front ++ x ∷ [] → same_sort (sort_at ts) sort ≡ true → next ≡ drop 1 ts → q next ≡ got x left → with_front front (more (after_sort sort) (past sort q) ts) ≡ whole
+    → with_front now (more (after_sort sort) (past sort q) left) ≡ whole
+one_more_past sort q p front now ts next left x whole e is f read before =
+    one_more (after_sort sort) (past sort q) p front now ts left x whole e is (tok_then sort q ts is ∙ ap q (sym f) ∙ read) before
+
+pub not_read_past : {A : Type 0} (sort : Sort) (q : Reads A) → IsPart (after_sort sort) (past sort q) → (front : List A) (ts next : List Lexeme) (whole : Outcome (List A)) (why : Refusal)
+    → same_sort (sort_at ts) sort ≡ true → next ≡ drop 1 ts → with_front front (more (after_sort sort) (past sort q) ts) ≡ whole
+    → Gives {A = A} (Err why) (q next) → Gives {A = List A} (Err why) whole
+not_read_past {A} sort q p front ts next whole why is e before g =
+    not_read (after_sort sort) (past sort q) p front ts whole why is before (subst (λ o. Gives {A = A} (Err why) o) (sym (tok_then sort q ts is ∙ ap q (sym e))) g)

@@ -6,10 +6,12 @@ use Rattle.og_value.specs.declared.term.Func.TheVariants as func
 use Rattle.og_syntax.specs.declared.lexeme.Sort.TheVariants as k
 use Rattle.og_syntax.specs.declared.tree.ExprText.{ExprText}
 use Rattle.og_syntax.specs.declared.tree.ExprText.TheVariants as e
-use Rattle.og_syntax.specs.Meanings.{func_of_two, func_of_one}
-use Rattle.og_syntax.specs.Rules.{Rule, ◌>>=◌, ◌>>◌, ◌or◌, pure, Given, Never, Tok, One, Worded, Optional, Single, Pair}
+use Rattle.og_syntax.specs.declared.tree.CondText.{CondText}
+use Rattle.og_syntax.specs.declared.tree.CondText.TheVariants as c
+use Rattle.og_syntax.specs.Meanings.{func_of_two, func_of_one, comparison_of, predicate_of}
+use Rattle.og_syntax.specs.Rules.{Rule, ◌>>=◌, ◌>>◌, ◌or◌, pure, Given, Never, Tok, One, Worded, Joined, Optional, Single, Pair}
 use Rattle.og_syntax.specs.Spans.{spelling, content, IsNameOf, IsTextOf, IsOfForm, IsDayValue, IsPointValue, IsPeriodValue}
-use Rattle.og_syntax.specs.Reader.{column_of}
+use Rattle.og_syntax.specs.Reader.{column_of, all_of, any_of}
 
 -- ---- names, texts and literals
 
@@ -61,3 +63,42 @@ IsExprIn script strict (suc d) =
 -- expr; each level takes a lexeme, so their count is no bound
 unfoldable pub IsExpr : List ℕ → Bool → Rule ExprText
 IsExpr script strict = λ ts. IsExprIn script strict (length ts) ts
+
+-- ---- conditions
+
+-- conj: neg (AND neg)*
+unfoldable pub IsConjOf : Rule CondText → Rule CondText
+IsConjOf Neg = do xs ← Joined Neg (do Tok k.And; Neg); pure (all_of xs)
+
+-- cond: conj (OR conj)*
+unfoldable pub IsCondOf : Rule CondText → Rule CondText
+IsCondOf Neg = do xs ← Joined (IsConjOf Neg) (do Tok k.Or; IsConjOf Neg); pure (any_of xs)
+
+unfoldable pub IsCompare : List ℕ → Bool → ExprText → Rule CondText
+IsCompare script strict x = do op ← Worded comparison_of; y ← IsExpr script strict; pure (c.Compare op x y)
+
+unfoldable pub IsRelate : List ℕ → Bool → ExprText → Rule CondText
+IsRelate script strict x = do pred ← Worded predicate_of; y ← IsExpr script strict; pure (c.Relate pred x y)
+
+-- expr cmp expr | expr pred expr
+unfoldable pub IsRelation : List ℕ → Bool → Rule CondText
+IsRelation script strict = do x ← IsExpr script strict; IsCompare script strict x or IsRelate script strict x
+
+-- atom, where negations inside it are of this rule
+unfoldable pub IsAtomOf : List ℕ → Bool → Rule CondText → Rule CondText
+IsAtomOf script strict Neg =
+    Single (IsCondOf Neg)
+    or (do Tok k.Empty; x ← Single (IsExpr script strict); pure (c.Empty x))
+    or (do Tok k.Contains; xs ← Pair (IsExpr script strict); pure (c.Contains xs.0 xs.1))
+    or IsRelation script strict
+
+-- neg: NOT neg | atom, nested no deeper than the number
+unfoldable pub IsNegIn : List ℕ → Bool → ℕ → Rule CondText
+IsNegIn script strict zero = Never
+IsNegIn script strict (suc d) =
+    (do Tok k.Not; x ← IsNegIn script strict d; pure (c.Not x))
+    or IsAtomOf script strict (IsNegIn script strict d)
+
+-- cond; each level takes a lexeme, so their count is no bound
+unfoldable pub IsCond : List ℕ → Bool → Rule CondText
+IsCond script strict = λ ts. IsCondOf (IsNegIn script strict (length ts)) ts

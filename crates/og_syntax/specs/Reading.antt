@@ -59,6 +59,10 @@ choose_if h p q = λ ts. if h ts then p ts else q ts
 unfoldable pub tok : Sort → Reads (Unit {0})
 tok sort = λ ts. if sees sort ts then Some (tt, drop 1 ts) else None
 
+-- what comes after a lexeme of the sort
+abbrev pub past : {A : Type 0} → Sort → Reads A → Reads A
+past sort p = tok sort >> p
+
 -- the lexeme itself, where it is of the sort
 unfoldable pub one : Sort → Reads Lexeme
 one sort [] = None

@@ -1,6 +1,7 @@
 //! What a script says: its trees, and the grammar of expressions, conditions and queries.
 #![tactic(auto)]
 
+mod conditions;
 mod expressions;
 mod lexeme;
 mod literals;
@@ -10,6 +11,7 @@ mod spelling;
 mod step;
 mod tree;
 
+pub use conditions::condition;
 pub use expressions::expression;
 pub use lexeme::{Lexeme, Sort};
 pub use literals::literal;

@@ -1,0 +1,241 @@
+//! Conditions.
+ghost use Rattle.std.specs.Prelude.{◌≡◌, ◌∷◌, []};
+ghost use Rattle.og_syntax.specs.Reading.{Gives, past, more, with_front, single, pair};
+ghost use Rattle.og_syntax.specs.Reader as spec;
+ghost use Rattle.og_syntax.specs.declared.lexeme.Sort.{Sort};
+
+use crate::expressions::expression;
+use crate::lexeme::{Lexeme, Sort};
+use crate::meaning::{comparison_of, predicate_of};
+use crate::refusal::Refusal;
+use crate::step::{after, expect, same_sort, sort_at};
+use crate::tree::{CondText, ExprText};
+use sqlite_items::{Boxed, Items};
+use std::alloc::Global;
+
+/// The condition that the lexemes begin with, and the lexemes after it.
+#[tactic(auto, unfolding(crate::specs::Reader::cond))]
+pub fn condition<'a>(
+    alloc: Global,
+    script: &[u8],
+    strict: bool,
+    lexemes: &'a [Lexeme],
+) -> Result<(CondText, &'a [Lexeme]), Refusal>
+    ensures { Gives result (spec.cond script.now strict lexemes.now) }
+{
+    condition_in(alloc, script, strict, lexemes, lexemes.len())
+}
+
+// Conjunctions with OR between them, whose negations are nested no deeper than the number.
+#[cycle(conditions)]
+#[tactic(auto, unfolding(crate::specs::Reader::cond_of))]
+pub fn condition_in<'a>(
+    alloc: Global,
+    script: &[u8],
+    strict: bool,
+    lexemes: &'a [Lexeme],
+    depth: usize,
+) -> Result<(CondText, &'a [Lexeme]), Refusal>
+    ensures { Gives result (spec.cond_of (spec.neg_in script.now strict depth) lexemes.now) }
+{
+    let (first, rest) = conjunction_in(alloc, script, strict, lexemes, depth)?;
+    let mut parts = Items::new(alloc);
+    parts.push(first)?;
+    let (parts, rest) = more_conjunctions_in(alloc, script, strict, rest, depth, parts)?;
+    Ok((any_of(parts), rest))
+}
+
+// Further conjunctions, each after OR, behind the parts that were read before.
+#[cycle(conditions)]
+fn more_conjunctions_in<'a>(
+    alloc: Global,
+    script: &[u8],
+    strict: bool,
+    lexemes: &'a [Lexeme],
+    depth: usize,
+    parts: Items<CondText>,
+) -> Result<(Items<CondText>, &'a [Lexeme]), Refusal>
+    ensures { Gives result (with_front parts (more (spec.is Sort.Or) (past Sort.Or (spec.conj_of (spec.neg_in script.now strict depth))) lexemes.now)) }
+{
+    let mut parts = parts;
+    let mut rest = lexemes;
+    'more: while same_sort(sort_at(rest), Sort::Or) {
+        let (part, left) = conjunction_in(alloc, script, strict, after(rest), depth)?;
+        parts.push(part)?;
+        rest = left;
+    }
+    Ok((parts, rest))
+}
+
+// Negations with AND between them, nested no deeper than the number.
+#[cycle(conditions)]
+#[tactic(auto, unfolding(crate::specs::Reader::conj_of))]
+fn conjunction_in<'a>(
+    alloc: Global,
+    script: &[u8],
+    strict: bool,
+    lexemes: &'a [Lexeme],
+    depth: usize,
+) -> Result<(CondText, &'a [Lexeme]), Refusal>
+    ensures { Gives result (spec.conj_of (spec.neg_in script.now strict depth) lexemes.now) }
+{
+    let (first, rest) = negation_in(alloc, script, strict, lexemes, depth)?;
+    let mut parts = Items::new(alloc);
+    parts.push(first)?;
+    let (parts, rest) = more_negations_in(alloc, script, strict, rest, depth, parts)?;
+    Ok((all_of(parts), rest))
+}
+
+// Further negations, each after AND, behind the parts that were read before.
+#[cycle(conditions)]
+fn more_negations_in<'a>(
+    alloc: Global,
+    script: &[u8],
+    strict: bool,
+    lexemes: &'a [Lexeme],
+    depth: usize,
+    parts: Items<CondText>,
+) -> Result<(Items<CondText>, &'a [Lexeme]), Refusal>
+    ensures { Gives result (with_front parts (more (spec.is Sort.And) (past Sort.And (spec.neg_in script.now strict depth)) lexemes.now)) }
+{
+    let mut parts = parts;
+    let mut rest = lexemes;
+    'more: while same_sort(sort_at(rest), Sort::And) {
+        let (part, left) = negation_in(alloc, script, strict, after(rest), depth)?;
+        parts.push(part)?;
+        rest = left;
+    }
+    Ok((parts, rest))
+}
+
+// An atom after any number of NOT, nested no deeper than the number.
+#[cycle(conditions)]
+#[tactic(auto, unfolding(crate::specs::Reader::neg_in))]
+pub fn negation_in<'a>(
+    alloc: Global,
+    script: &[u8],
+    strict: bool,
+    lexemes: &'a [Lexeme],
+    depth: usize,
+) -> Result<(CondText, &'a [Lexeme]), Refusal>
+    ensures { Gives result (spec.neg_in script.now strict depth lexemes.now) }
+{
+    if depth == 0 {
+        return Err(Refusal::Syntax);
+    }
+    if same_sort(sort_at(lexemes), Sort::Not) {
+        let rest = expect(lexemes, Sort::Not)?;
+        let (inner, rest) = negation_in(alloc, script, strict, rest, depth - 1)?;
+        return Ok((CondText::Not(Boxed::new(alloc, inner)?), rest));
+    }
+    atom_in(alloc, script, strict, lexemes, depth - 1)
+}
+
+// An atom, whose negations are nested no deeper than the number.
+#[cycle(conditions)]
+#[tactic(auto, unfolding(crate::specs::Reader::atom_of))]
+fn atom_in<'a>(
+    alloc: Global,
+    script: &[u8],
+    strict: bool,
+    lexemes: &'a [Lexeme],
+    depth: usize,
+) -> Result<(CondText, &'a [Lexeme]), Refusal>
+    ensures { Gives result (spec.atom_of script.now strict (spec.neg_in script.now strict depth) lexemes.now) }
+{
+    let sort = sort_at(lexemes);
+    if same_sort(sort, Sort::LeftParen) {
+        let rest = expect(lexemes, Sort::LeftParen)?;
+        let (inner, rest) = condition_in(alloc, script, strict, rest, depth)?;
+        let rest = expect(rest, Sort::RightParen)?;
+        return Ok((inner, rest));
+    }
+    if same_sort(sort, Sort::Empty) {
+        let rest = expect(lexemes, Sort::Empty)?;
+        let (period, rest) = one_expression(alloc, script, strict, rest)?;
+        return Ok((CondText::Empty(period), rest));
+    }
+    if same_sort(sort, Sort::Contains) {
+        let rest = expect(lexemes, Sort::Contains)?;
+        let ((period, day), rest) = two_expressions(alloc, script, strict, rest)?;
+        return Ok((CondText::Contains(period, day), rest));
+    }
+    relation(alloc, script, strict, lexemes)
+}
+
+// One by itself, or the list of several that are joined by AND.
+fn all_of(parts: Items<CondText>) -> CondText
+    ensures { result ≡ spec.all_of parts }
+{
+    if parts.len() != 1 {
+        return CondText::And(parts);
+    }
+    let mut parts = parts;
+    parts.remove(0)
+}
+
+// One by itself, or the list of several that are joined by OR.
+fn any_of(parts: Items<CondText>) -> CondText
+    ensures { result ≡ spec.any_of parts }
+{
+    if parts.len() != 1 {
+        return CondText::Or(parts);
+    }
+    let mut parts = parts;
+    parts.remove(0)
+}
+
+// An expression in parentheses.
+fn one_expression<'a>(
+    alloc: Global,
+    script: &[u8],
+    strict: bool,
+    lexemes: &'a [Lexeme],
+) -> Result<(ExprText, &'a [Lexeme]), Refusal>
+    ensures { Gives result (single (spec.expr script.now strict) lexemes.now) }
+{
+    let rest = expect(lexemes, Sort::LeftParen)?;
+    let (only, rest) = expression(alloc, script, strict, rest)?;
+    let rest = expect(rest, Sort::RightParen)?;
+    Ok((only, rest))
+}
+
+// Two expressions in parentheses.
+fn two_expressions<'a>(
+    alloc: Global,
+    script: &[u8],
+    strict: bool,
+    lexemes: &'a [Lexeme],
+) -> Result<((ExprText, ExprText), &'a [Lexeme]), Refusal>
+    ensures { Gives result (pair (spec.expr script.now strict) lexemes.now) }
+{
+    let rest = expect(lexemes, Sort::LeftParen)?;
+    let (left, rest) = expression(alloc, script, strict, rest)?;
+    let rest = expect(rest, Sort::Comma)?;
+    let (right, rest) = expression(alloc, script, strict, rest)?;
+    let rest = expect(rest, Sort::RightParen)?;
+    Ok(((left, right), rest))
+}
+
+// Two expressions with a comparison or a predicate between them.
+#[tactic(auto, unfolding(crate::specs::Reader::relation, crate::specs::Reader::compare, crate::specs::Reader::relate, crate::specs::Reading::worded))]
+fn relation<'a>(
+    alloc: Global,
+    script: &[u8],
+    strict: bool,
+    lexemes: &'a [Lexeme],
+) -> Result<(CondText, &'a [Lexeme]), Refusal>
+    ensures { Gives result (spec.relation script.now strict lexemes.now) }
+{
+    let (left, rest) = expression(alloc, script, strict, lexemes)?;
+    let sort = sort_at(rest);
+    if let Some(op) = comparison_of(sort) {
+        let (right, rest) = expression(alloc, script, strict, after(rest))?;
+        return Ok((CondText::Compare { op, left, right }, rest));
+    }
+    let Some(pred) = predicate_of(sort) else {
+        return Err(Refusal::Syntax);
+    };
+    let (right, rest) = expression(alloc, script, strict, after(rest))?;
+    Ok((CondText::Relate { pred, left, right }, rest))
+}
