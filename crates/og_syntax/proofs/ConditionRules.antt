@@ -9,10 +9,11 @@ use Rattle.og_syntax.specs.Lexemes.{same_sort}
 use Rattle.og_syntax.specs.Meanings.{comparison_of, predicate_of}
 use Rattle.og_syntax.specs.Reading.{Reads, has, past}
 use Rattle.og_syntax.specs.Rules.{Rule}
-use Rattle.og_syntax.specs.Reader.{is, expr, all_of, any_of, conj_of, cond_of, compare, relate, relation, atom_of, neg_in, cond}
+use Rattle.og_syntax.specs.Reader.{is, expr, conj_of, cond_of, compare, relate, relation, atom_of, neg_in, cond}
+use Rattle.og_syntax.specs.Clauses.{all_of, any_of}
 use Rattle.og_syntax.specs.Grammar.{IsExpr, IsConjOf, IsCondOf, IsCompare, IsRelate, IsRelation, IsAtomOf, IsNegIn, IsCond}
 use Rattle.og_syntax.proofs.Exact.{Exact, exact-never, exact-worded, exact-bind, exact-then, exact-after, exact-map, exact-loose, exact-any, exact-choose, exact-joined, exact-single, exact-pair}
-use Rattle.og_syntax.proofs.Loops.{IsPart, is_part}
+use Rattle.og_syntax.proofs.Loops.{IsPart, is_part, after_sort}
 use Rattle.og_syntax.proofs.ExpressionRules.{after_expr, expr_begins, exact-expr}
 
 -- AND goes on with a conjunction
@@ -84,10 +85,10 @@ exact-cond script strict = record {
 
 -- ---- the parts of lists of conditions
 
-pub and_part : (script : List ℕ) (strict : Bool) (d : ℕ) → IsPart (is k.And) (past k.And (neg_in script strict d))
+pub and_part : (script : List ℕ) (strict : Bool) (d : ℕ) → IsPart (after_sort k.And) (past k.And (neg_in script strict d))
 unfolding same_sort
-and_part script strict d = is_part refl (exact-after k.And refl (exact-neg_in script strict d))
+and_part script strict d = is_part (after_sort k.And) refl (exact-after k.And refl (exact-neg_in script strict d))
 
-pub or_part : (script : List ℕ) (strict : Bool) (d : ℕ) → IsPart (is k.Or) (past k.Or (conj_of (neg_in script strict d)))
+pub or_part : (script : List ℕ) (strict : Bool) (d : ℕ) → IsPart (after_sort k.Or) (past k.Or (conj_of (neg_in script strict d)))
 unfolding same_sort
-or_part script strict d = is_part refl (exact-after k.Or refl (exact-conj_of (exact-neg_in script strict d)))
+or_part script strict d = is_part (after_sort k.Or) refl (exact-after k.Or refl (exact-conj_of (exact-neg_in script strict d)))

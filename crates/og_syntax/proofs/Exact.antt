@@ -8,7 +8,7 @@ use Rattle.og_syntax.specs.declared.lexeme.Sort.TheVariants as k
 use Rattle.og_syntax.specs.declared.lexeme.Lexeme.{Lexeme}
 use Rattle.og_syntax.specs.Lexemes.{same_sort, sort_at, sees}
 use Rattle.og_syntax.specs.Reading as reading
-use Rattle.og_syntax.specs.Reading.{Reads, Outcome, got, and_then, refuse, given, choose, choose_if, tok, one, is_there, has, word_from, worded, single, pair, more_from, more, joined, optional}
+use Rattle.og_syntax.specs.Reading.{Reads, Outcome, got, and_then, refuse, given, choose, choose_if, tok, one, is_there, has, word_from, worded, single, pair, more_if_from, more_if, more, joined, optional}
 use Rattle.og_syntax.specs.Rules.{Rule, Given, ◌or◌, Never, Tok, One, Worded, Many, Joined, Optional, Single, Pair}
 use Rattle.og_syntax.specs.Rules as rules_
 use Rattle.og_syntax.proofs.EverySort.{sorts, everywhere_in, everywhere, every_sort}
@@ -233,7 +233,8 @@ may_follow {B} {e} {g} {G} {q} {Q} F D can ts y rest h f = go (D.lead ts y rest 
     go (inl a) = at_front (or_left _ _ a.0)
     go (inr a) = at_front (or_right (g (sort_at ts)) _ (both_of e _ a.0 (subst (λ ts. ahead G ts ≡ true) a.1 f)))
 
-bind_lead : {A B : Type 0} {e d : Bool} {f g : Sort → Bool} {F G : Sort → Bool → Bool} {p : Reads A} {P : Rule A} {q : A → Reads B} {Q : A → Rule B}
+-- what two parts in a row begin with
+pub bind_lead : {A B : Type 0} {e d : Bool} {f g : Sort → Bool} {F G : Sort → Bool → Bool} {p : Reads A} {P : Rule A} {q : A → Reads B} {Q : A → Rule B}
     → Exact e f F p P → ((x : A) → Exact d g G (q x) (Q x)) → (ts : List Lexeme) (y : B) (rest : List Lexeme) → rules_.Bind P Q ts y rest
     → (((f (sort_at ts) || (e && g (sort_at ts))) ≡ true) × (length rest < length ts)) ⊎ (((e && d) ≡ true) × (rest ≡ ts))
 bind_lead {A} {B} {e} {d} {f} {g} {F} {G} {p} {P} {q} {Q} E D ts y rest h = go (E.lead ts h.0 h.1 h.2) ((D h.0).lead h.1 y rest h.3)
@@ -278,6 +279,14 @@ exact-loose {A} {e} {f} {g} {F} {G} {p} {P} E within fewer = record {
     go ts rest (inl a) = inl (so _ _ (every_sort (λ a. implies (f a) (g a)) within (sort_at ts)) a.0, a.1)
     go ts rest (inr a) = inr a
 
+-- fewer lexemes may follow
+pub exact-ends : {A : Type 0} {e : Bool} {f : Sort → Bool} {F : Sort → Bool → Bool} {p : Reads A} {P : Rule A} (G : Sort → Bool → Bool)
+    → Exact e f F p P → everywhere_twice (λ a named. implies (G a named) (F a named)) ≡ true → Exact e f G p P
+exact-ends {A} {e} {f} {F} G E fewer = record {
+  sound = E.sound;
+  complete = λ ts x rest h after. E.complete ts x rest h (so _ _ (every_twice (λ a named. implies (G a named) (F a named)) fewer (sort_at rest) (sees k.Name (drop 1 rest))) after);
+  lead = E.lead }
+
 -- where anything may follow, fewer lexemes may
 pub exact-any : {A : Type 0} {e : Bool} {f : Sort → Bool} {G : Sort → Bool → Bool} {p : Reads A} {P : Rule A} → Exact e f anything p P → Exact e f G p P
 exact-any E = record { sound = E.sound; complete = λ ts x rest h after. E.complete ts x rest h refl; lead = E.lead }
@@ -295,7 +304,7 @@ exact-map {A} {B} {e} {f} {F} {p} {P} E g = record {
 
 -- ---- the one, or the other
 
-if_sound : {A : Type 0} (b : Bool) (p q : Outcome A) (x : A) (rest : List Lexeme) (P Q : Type 0)
+pub if_sound : {A : Type 0} (b : Bool) (p q : Outcome A) (x : A) (rest : List Lexeme) (P Q : Type 0)
     → (p ≡ got x rest → P) → (q ≡ got x rest → Q) → (if b then p else q) ≡ got x rest → P ⊎ Q
 if_sound true p q x rest P Q l r e = inl (l e)
 if_sound false p q x rest P Q l r e = inr (r e)
@@ -392,16 +401,16 @@ shrinks {A} {f} E ts x rest h = go (E.lead ts x rest h)
     go (inl a) = a
     go (inr a) = cc
 
-more_sound : {A : Type 0} (h : Sort → Bool) (q : Reads A) (Q : Rule A)
+pub more_sound : {A : Type 0} (h : List Lexeme → Bool) (q : Reads A) (Q : Rule A)
     → ((ts : List Lexeme) (x : A) (rest : List Lexeme) → q ts ≡ got x rest → Q ts x rest)
-    → (n : ℕ) (ts : List Lexeme) (xs : List A) (rest : List Lexeme) → more_from h q n ts ≡ got xs rest → Many Q ts xs rest
+    → (n : ℕ) (ts : List Lexeme) (xs : List A) (rest : List Lexeme) → more_if_from h q n ts ≡ got xs rest → Many Q ts xs rest
 more_sound {A} h q Q qs zero ts xs rest e = let s = same_got [] xs ts rest e in subst (λ xs. Many Q ts xs rest) s.0 (sym s.1)
-more_sound {A} h q Q qs (suc n) ts xs rest e = go (if_sound (h (sort_at ts)) _ _ xs rest _ _ (turn (more_sound h q Q qs n)) stop e)
+more_sound {A} h q Q qs (suc n) ts xs rest e = go (if_sound (h ts) _ _ xs rest _ _ (turn (more_sound h q Q qs n)) stop e)
   where
-    turn : ((ts : List Lexeme) (xs : List A) (rest : List Lexeme) → more_from h q n ts ≡ got xs rest → Many Q ts xs rest)
-        → reading.bind q (λ x. reading.bind (more_from h q n) (λ xs. reading.pure (x ∷ xs))) ts ≡ got xs rest → Many Q ts xs rest
-    turn fewer a = made (bind_sound q Q (λ x. reading.bind (more_from h q n) (λ xs. reading.pure (x ∷ xs))) (λ x. rules_.Bind (Many Q) (λ xs. rules_.pure (x ∷ xs))) qs
-        (λ x. bind_sound (more_from h q n) (Many Q) (λ xs. reading.pure (x ∷ xs)) (λ xs. rules_.pure (x ∷ xs)) fewer (λ xs. (exact-pure (x ∷ xs)).sound))
+    turn : ((ts : List Lexeme) (xs : List A) (rest : List Lexeme) → more_if_from h q n ts ≡ got xs rest → Many Q ts xs rest)
+        → reading.bind q (λ x. reading.bind (more_if_from h q n) (λ xs. reading.pure (x ∷ xs))) ts ≡ got xs rest → Many Q ts xs rest
+    turn fewer a = made (bind_sound q Q (λ x. reading.bind (more_if_from h q n) (λ xs. reading.pure (x ∷ xs))) (λ x. rules_.Bind (Many Q) (λ xs. rules_.pure (x ∷ xs))) qs
+        (λ x. bind_sound (more_if_from h q n) (Many Q) (λ xs. reading.pure (x ∷ xs)) (λ xs. rules_.pure (x ∷ xs)) fewer (λ xs. (exact-pure (x ∷ xs)).sound))
         ts xs rest a)
       where
         made : rules_.Bind Q (λ x. rules_.Bind (Many Q) (λ xs. rules_.pure (x ∷ xs))) ts xs rest → Many Q ts xs rest
@@ -415,31 +424,32 @@ more_sound {A} h q Q qs (suc n) ts xs rest e = go (if_sound (h (sort_at ts)) _ _
     go (inr a) = a
 
 -- what comes where parts were, or would be, is what may follow a part
-many_ahead : {A : Type 0} {h : Sort → Bool} {F : Sort → Bool → Bool} {q : Reads A} {Q : Rule A}
-    → Exact false h F q Q → may false h anything F ≡ true
-    → (ts : List Lexeme) (xs : List A) (rest : List Lexeme) → Many Q ts xs rest → (ahead F rest && not (h (sort_at rest))) ≡ true → ahead F ts ≡ true
-many_ahead {A} {h} {F} E can ts [] rest m after = subst (λ r. ahead F r ≡ true) m (left_of (ahead F rest) _ after)
-many_ahead {A} {h} {F} E can ts (x ∷ xs) rest m after =
-    so _ _ (every_twice (λ a named. implies (h a || (false && true)) (F a named)) can (sort_at ts) (sees k.Name (drop 1 ts))) (or_left _ _ (shrinks E ts x m.0 m.1).0)
+pub many_ahead : {A : Type 0} {f : Sort → Bool} {F : Sort → Bool → Bool} {q : Reads A} {Q : Rule A}
+    → Exact false f F q Q → may false f anything F ≡ true
+    → (ts : List Lexeme) (xs : List A) (rest : List Lexeme) → Many Q ts xs rest → ahead F rest ≡ true → ahead F ts ≡ true
+many_ahead {A} {f} {F} E can ts [] rest m after = subst (λ r. ahead F r ≡ true) m after
+many_ahead {A} {f} {F} E can ts (x ∷ xs) rest m after =
+    so _ _ (every_twice (λ a named. implies (f a || (false && true)) (F a named)) can (sort_at ts) (sees k.Name (drop 1 ts))) (or_left _ _ (shrinks E ts x m.0 m.1).0)
 
 pub too_few : (a b : ℕ) → a < b → b ≤ 0 → ⊥
 too_few a b less le = omega (arith, less, le)
 
-more_complete : {A : Type 0} {h : Sort → Bool} {F : Sort → Bool → Bool} {q : Reads A} {Q : Rule A}
-    → Exact false h F q Q → may false h anything F ≡ true
-    → (n : ℕ) (ts : List Lexeme) (xs : List A) (rest : List Lexeme) → Many Q ts xs rest → (ahead F rest && not (h (sort_at rest))) ≡ true → length ts ≤ n
-    → more_from h q n ts ≡ got xs rest
-more_complete E can zero ts [] rest m after le = got_same [] [] ts rest refl (sym m)
-more_complete {A} {h} {F} {q} E can (suc n) ts [] rest m after le =
-    ap (λ b. if b then reading.bind q (λ x. reading.bind (more_from h q n) (λ xs. reading.pure (x ∷ xs))) ts else got [] ts)
-    (not_true _ (subst (λ r. not (h (sort_at r)) ≡ true) m (right_of (ahead F rest) _ after)))
+-- parts are read where the test holds of each of them and not of what comes after them
+pub more_complete : {A : Type 0} {f : Sort → Bool} {F : Sort → Bool → Bool} {q : Reads A} {Q : Rule A} (h : List Lexeme → Bool)
+    → Exact false f F q Q → may false f anything F ≡ true → ((ts : List Lexeme) (x : A) (rest : List Lexeme) → Q ts x rest → h ts ≡ true)
+    → (n : ℕ) (ts : List Lexeme) (xs : List A) (rest : List Lexeme) → Many Q ts xs rest → ahead F rest ≡ true → h rest ≡ false → length ts ≤ n
+    → more_if_from h q n ts ≡ got xs rest
+more_complete h E can test zero ts [] rest m after stop le = got_same [] [] ts rest refl (sym m)
+more_complete {A} {f} {F} {q} h E can test (suc n) ts [] rest m after stop le =
+    ap (λ b. if b then reading.bind q (λ x. reading.bind (more_if_from h q n) (λ xs. reading.pure (x ∷ xs))) ts else got [] ts)
+    (subst (λ r. h r ≡ false) m stop)
     ∙ got_same [] [] ts rest refl (sym m)
-more_complete E can zero ts (x ∷ xs) rest m after le = absurd (too_few (length m.0) (length ts) (shrinks E ts x m.0 m.1).1 le)
-more_complete {A} {h} {F} {q} E can (suc n) ts (x ∷ xs) rest m after le =
+more_complete h E can test zero ts (x ∷ xs) rest m after stop le = absurd (too_few (length m.0) (length ts) (shrinks E ts x m.0 m.1).1 le)
+more_complete {A} {f} {F} {q} h E can test (suc n) ts (x ∷ xs) rest m after stop le =
     let some = shrinks E ts x m.0 m.1 in
-    ap (λ b. if b then reading.bind q (λ x. reading.bind (more_from h q n) (λ xs. reading.pure (x ∷ xs))) ts else got [] ts) some.0
-    ∙ ap (λ r. and_then r (λ x. reading.bind (more_from h q n) (λ xs. reading.pure (x ∷ xs)))) (E.complete ts x m.0 m.1 (many_ahead E can m.0 xs rest m.2 after))
-    ∙ ap (λ r. and_then r (λ xs. reading.pure (x ∷ xs))) (more_complete E can n m.0 xs rest m.2 after (fewer (length m.0) (length ts) n some.1 le))
+    ap (λ b. if b then reading.bind q (λ x. reading.bind (more_if_from h q n) (λ xs. reading.pure (x ∷ xs))) ts else got [] ts) (test ts x m.0 m.1)
+    ∙ ap (λ r. and_then r (λ x. reading.bind (more_if_from h q n) (λ xs. reading.pure (x ∷ xs)))) (E.complete ts x m.0 m.1 (many_ahead E can m.0 xs rest m.2 after))
+    ∙ ap (λ r. and_then r (λ xs. reading.pure (x ∷ xs))) (more_complete h E can test n m.0 xs rest m.2 after stop (fewer (length m.0) (length ts) n some.1 le))
   where
     fewer : (a b n : ℕ) → a < b → b ≤ suc n → a ≤ n
     fewer a b n l m = omega (arith, l, m)
@@ -458,10 +468,12 @@ many_lead E ts (x ∷ xs) rest m =
 
 pub exact-more : {A : Type 0} {h : Sort → Bool} {F : Sort → Bool → Bool} {q : Reads A} {Q : Rule A}
     → Exact false h F q Q → may false h anything F ≡ true → Exact true h (λ a named. F a named && not (h a)) (more h q) (Many Q)
-unfolding more
+unfolding more_if
 exact-more {A} {h} {F} {q} {Q} E can = record {
-  sound = λ ts xs rest e. more_sound h q Q E.sound (length ts) ts xs rest e;
-  complete = λ ts xs rest m after. more_complete E can (length ts) ts xs rest m after (le_refl _);
+  sound = λ ts xs rest e. more_sound (λ ts. h (sort_at ts)) q Q E.sound (length ts) ts xs rest e;
+  complete = λ ts xs rest m after.
+      more_complete (λ ts. h (sort_at ts)) E can (λ ts x rest a. (shrinks E ts x rest a).0) (length ts) ts xs rest m
+      (left_of (ahead F rest) _ after) (not_true _ (right_of (ahead F rest) _ after)) (le_refl _);
   lead = many_lead E;
 }
 

@@ -4,4 +4,6 @@ pub mod Exact
 pub mod ExpressionRules
 pub mod LiteralRules
 pub mod Loops
+pub mod QueryRules
 pub mod TextValues
+pub mod WhereRules

@@ -1,5 +1,5 @@
 -- The grammar, one rule for each of its lines. The script's bytes stand behind the lexemes. Where it is not strict, quoted texts need not be of their form.
-use Rattle.std.specs.Prelude.{ℕ, zero, suc, Bool, List, [], ◌∷◌, Option, Some, None, length}
+use Rattle.std.specs.Prelude.{ℕ, zero, suc, Bool, List, [], ◌∷◌, Option, Some, None, length, true, false}
 use Rattle.og_value.specs.declared.value.Value.{Value}
 use Rattle.og_value.specs.declared.value.Value.TheVariants as v
 use Rattle.og_value.specs.declared.term.Func.TheVariants as func
@@ -8,10 +8,19 @@ use Rattle.og_syntax.specs.declared.tree.ExprText.{ExprText}
 use Rattle.og_syntax.specs.declared.tree.ExprText.TheVariants as e
 use Rattle.og_syntax.specs.declared.tree.CondText.{CondText}
 use Rattle.og_syntax.specs.declared.tree.CondText.TheVariants as c
+use Rattle.og_syntax.specs.declared.tree.ItemText.{ItemText}
+use Rattle.og_syntax.specs.declared.tree.ItemsText.{ItemsText}
+use Rattle.og_syntax.specs.declared.tree.ItemsText.TheVariants as i
+use Rattle.og_syntax.specs.declared.tree.FromText.{FromText}
+use Rattle.og_syntax.specs.declared.tree.SemiText.{SemiText}
+use Rattle.og_syntax.specs.declared.tree.CoreText.{CoreText}
+use Rattle.og_syntax.specs.declared.tree.RestText.{RestText}
+use Rattle.og_syntax.specs.declared.tree.QueryText.{QueryText}
 use Rattle.og_syntax.specs.Meanings.{func_of_two, func_of_one, comparison_of, predicate_of}
-use Rattle.og_syntax.specs.Rules.{Rule, ◌>>=◌, ◌>>◌, ◌or◌, pure, Given, Never, Tok, One, Worded, Joined, Optional, Single, Pair}
+use Rattle.og_syntax.specs.Rules.{Rule, ◌>>=◌, ◌>>◌, ◌or◌, pure, Given, Never, Tok, One, Worded, Many, Joined, Optional, Past, Single, Pair}
 use Rattle.og_syntax.specs.Spans.{spelling, content, IsNameOf, IsTextOf, IsOfForm, IsDayValue, IsPointValue, IsPeriodValue}
-use Rattle.og_syntax.specs.Reader.{column_of, all_of, any_of}
+use Rattle.og_syntax.specs.Reader.{column_of, between_cores}
+use Rattle.og_syntax.specs.Clauses.{all_of, any_of, Aliased, item_of, table_of, semi_of, Where, before_semis, core_of, rest_of, query_of}
 
 -- ---- names, texts and literals
 
@@ -102,3 +111,84 @@ IsNegIn script strict (suc d) =
 -- cond; each level takes a lexeme, so their count is no bound
 unfoldable pub IsCond : List ℕ → Bool → Rule CondText
 IsCond script strict = λ ts. IsCondOf (IsNegIn script strict (length ts)) ts
+
+-- ---- the parts of a query
+
+-- name | AS name, or nothing
+unfoldable pub IsAlias : List ℕ → Rule (Option (List ℕ))
+IsAlias script = (do x ← IsName script; pure (Some x)) or (do Tok k.As; x ← IsName script; pure (Some x)) or pure None
+
+-- fitem and subitem: name | name name | name AS name
+unfoldable pub IsFitem : List ℕ → Rule Aliased
+IsFitem script = do x ← IsName script; y ← IsAlias script; pure (x, y)
+
+-- item: expr | expr AS name
+unfoldable pub IsItem : List ℕ → Bool → Rule ItemText
+IsItem script strict = do x ← IsExpr script strict; y ← Optional (Past k.As (IsName script)); pure (item_of x y)
+
+unfoldable pub IsItemList : List ℕ → Bool → Rule (List ItemText)
+IsItemList script strict = Joined (IsItem script strict) (Past k.Comma (IsItem script strict))
+
+-- items: * | item (, item)*
+unfoldable pub IsItems : List ℕ → Bool → Rule ItemsText
+IsItems script strict = (do Tok k.Star; pure i.Star) or (do xs ← IsItemList script strict; pure (i.List xs))
+
+unfoldable pub IsFirstTable : List ℕ → Rule FromText
+IsFirstTable script = do x ← IsFitem script; pure (table_of x None)
+
+unfoldable pub IsJoinedTable : List ℕ → Bool → Rule FromText
+IsJoinedTable script strict = do Tok k.Join; x ← IsFitem script; Tok k.On; y ← IsCond script strict; pure (table_of x (Some y))
+
+-- more: , fitem | JOIN fitem ON cond
+unfoldable pub IsFurtherTable : List ℕ → Bool → Rule FromText
+IsFurtherTable script strict = Past k.Comma (IsFirstTable script) or IsJoinedTable script strict
+
+-- from: fitem more*
+unfoldable pub IsTables : List ℕ → Bool → Rule (List FromText)
+IsTables script strict = Joined (IsFirstTable script) (IsFurtherTable script strict)
+
+-- ---- WHERE, with EXISTS at its end
+
+-- sub: SELECT * FROM subitem (WHERE cond)?
+unfoldable pub IsSub : List ℕ → Bool → Rule (Aliased × Option CondText)
+IsSub script strict = do Tok k.Select; Tok k.Star; Tok k.From; x ← IsFitem script; y ← Optional (Past k.Where (IsCond script strict)); pure (x, y)
+
+-- semi: EXISTS ( sub ) | NOT EXISTS ( sub )
+unfoldable pub IsSemi : List ℕ → Bool → Rule SemiText
+IsSemi script strict =
+    (do Tok k.Exists; x ← Single (IsSub script strict); pure (semi_of true x))
+    or (do Tok k.Not; Tok k.Exists; x ← Single (IsSub script strict); pure (semi_of false x))
+
+-- semi (AND semi)*
+unfoldable pub IsSemis : List ℕ → Bool → Rule (List SemiText)
+IsSemis script strict = Joined (IsSemi script strict) (Past k.And (IsSemi script strict))
+
+-- wcond: cond | (neg AND)* semi (AND semi)*
+unfoldable pub IsWcondOf : List ℕ → Bool → Rule CondText → Rule Where
+IsWcondOf script strict Neg =
+    (do x ← IsCondOf Neg; pure (Some x, []))
+    or (do xs ← Many (do x ← Neg; Tok k.And; pure x); ss ← IsSemis script strict; pure (before_semis xs, ss))
+
+-- of a live query, a condition without EXISTS
+unfoldable pub IsWcond : List ℕ → Bool → Bool → Rule Where
+IsWcond script strict true = do x ← IsCond script strict; pure (Some x, [])
+IsWcond script strict false = λ ts. IsWcondOf script strict (IsNegIn script strict (length ts)) ts
+
+-- ---- queries
+
+-- core: SELECT items FROM from (WHERE wcond)?, and lcore where it is live
+unfoldable pub IsCore : List ℕ → Bool → Bool → Rule CoreText
+IsCore script strict live = do
+  Tok k.Select
+  xs ← IsItems script strict
+  Tok k.From
+  ts ← IsTables script strict
+  w ← Optional (Past k.Where (IsWcond script strict live))
+  pure (core_of xs ts w)
+
+unfoldable pub IsFurtherCore : List ℕ → Bool → Bool → Rule RestText
+IsFurtherCore script strict live = do op ← Worded (between_cores live); x ← IsCore script strict live; pure (rest_of op x)
+
+-- query: core (setop core)*, and lcore (UNION lcore)* where it is live
+unfoldable pub IsQuery : List ℕ → Bool → Bool → Rule QueryText
+IsQuery script strict live = do x ← IsCore script strict live; xs ← Many (IsFurtherCore script strict live); pure (query_of x xs)

@@ -1,3 +1,4 @@
+pub mod Clauses
 pub mod Grammar
 pub mod Lexemes
 pub mod Meanings

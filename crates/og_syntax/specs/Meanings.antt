@@ -48,3 +48,7 @@ set_op_of k.Union = Some op.Union
 set_op_of k.Except = Some op.Except
 set_op_of k.Intersect = Some op.Intersect
 set_op_of _ = None
+
+abbrev pub union_of : Sort → Option SetOp
+union_of k.Union = Some op.Union
+union_of _ = None

@@ -1,8 +1,9 @@
 -- The readers of the grammar, one for each of its rules. The script's bytes stand behind the lexemes.
-use Rattle.std.specs.Prelude.{ℕ, zero, suc, Bool, List, [], ◌∷◌, Option, Some, None, length, drop, ◌&&◌}
+use Rattle.std.specs.Prelude.{ℕ, zero, suc, Bool, List, [], ◌∷◌, Option, Some, None, length, drop, ◌&&◌, ◌||◌, not, true, false}
 use Rattle.og_value.specs.declared.value.Value.{Value}
 use Rattle.og_value.specs.declared.value.Value.TheVariants as v
 use Rattle.og_value.specs.declared.term.Func.TheVariants as func
+use Rattle.og_value.specs.declared.term.SetOp.{SetOp}
 use Rattle.og_syntax.specs.declared.lexeme.Sort.{Sort}
 use Rattle.og_syntax.specs.declared.lexeme.Sort.TheVariants as k
 use Rattle.og_syntax.specs.declared.lexeme.Lexeme.{Lexeme}
@@ -10,9 +11,18 @@ use Rattle.og_syntax.specs.declared.tree.ExprText.{ExprText}
 use Rattle.og_syntax.specs.declared.tree.ExprText.TheVariants as e
 use Rattle.og_syntax.specs.declared.tree.CondText.{CondText}
 use Rattle.og_syntax.specs.declared.tree.CondText.TheVariants as c
+use Rattle.og_syntax.specs.declared.tree.ItemText.{ItemText}
+use Rattle.og_syntax.specs.declared.tree.ItemsText.{ItemsText}
+use Rattle.og_syntax.specs.declared.tree.ItemsText.TheVariants as i
+use Rattle.og_syntax.specs.declared.tree.FromText.{FromText}
+use Rattle.og_syntax.specs.declared.tree.SemiText.{SemiText}
+use Rattle.og_syntax.specs.declared.tree.CoreText.{CoreText}
+use Rattle.og_syntax.specs.declared.tree.RestText.{RestText}
+use Rattle.og_syntax.specs.declared.tree.QueryText.{QueryText}
+use Rattle.og_syntax.specs.Clauses.{all_of, any_of, Aliased, item_of, table_of, semi_of, Where, core_of, rest_of, query_of}
 use Rattle.og_syntax.specs.Lexemes.{same_sort, sort_at, sees}
-use Rattle.og_syntax.specs.Meanings.{func_of_two, func_of_one, comparison_of, predicate_of}
-use Rattle.og_syntax.specs.Reading.{Reads, ◌>>=◌, ◌>>◌, pure, refuse, given, choose, choose_if, tok, one, has, worded, joined, optional, single, pair}
+use Rattle.og_syntax.specs.Meanings.{func_of_two, func_of_one, comparison_of, predicate_of, set_op_of, union_of}
+use Rattle.og_syntax.specs.Reading.{Reads, ◌>>=◌, ◌>>◌, pure, refuse, given, choose, choose_if, tok, one, has, worded, more_if, more, joined, joined_if, optional, past, single, pair}
 use Rattle.og_syntax.specs.Spans.{spelling, content, name_of, text_of, day_value_from, point_value_from, period_value_from, of_form}
 use Rattle.og_syntax.specs.TextValues.{day_of, point_of, period_of}
 
@@ -77,16 +87,6 @@ expr script strict = λ ts. expr_in script strict (length ts) ts
 
 -- ---- conditions
 
--- one by itself, or the list of several that are joined by AND
-abbrev pub all_of : List CondText → CondText
-all_of (x ∷ []) = x
-all_of xs = c.And xs
-
--- one by itself, or the list of several that are joined by OR
-abbrev pub any_of : List CondText → CondText
-any_of (x ∷ []) = x
-any_of xs = c.Or xs
-
 unfoldable pub conj_of : Reads CondText → Reads CondText
 conj_of neg = do xs ← joined neg (is k.And) (do tok k.And; neg); pure (all_of xs)
 
@@ -121,3 +121,100 @@ neg_in script strict (suc d) =
 -- each level takes a lexeme, so their count is levels enough
 unfoldable pub cond : List ℕ → Bool → Reads CondText
 cond script strict = λ ts. cond_of (neg_in script strict (length ts)) ts
+
+-- ---- the parts of a query
+
+-- AS comes and a name after it
+unfoldable pub as_name : List Lexeme → Bool
+as_name ts = sees k.As ts && sees k.Name (drop 1 ts)
+
+unfoldable pub alias : List ℕ → Reads (Option (List ℕ))
+alias script =
+    choose (is k.Name) (do x ← name script; pure (Some x))
+    (choose_if as_name (do tok k.As; x ← name script; pure (Some x)) (pure None))
+
+unfoldable pub fitem : List ℕ → Reads Aliased
+fitem script = do x ← name script; y ← alias script; pure (x, y)
+
+unfoldable pub item : List ℕ → Bool → Reads ItemText
+item script strict = do x ← expr script strict; y ← optional (is k.As) (past k.As (name script)); pure (item_of x y)
+
+unfoldable pub item_list : List ℕ → Bool → Reads (List ItemText)
+item_list script strict = joined (item script strict) (is k.Comma) (past k.Comma (item script strict))
+
+unfoldable pub items : List ℕ → Bool → Reads ItemsText
+items script strict = choose (is k.Star) (do tok k.Star; pure i.Star) (do xs ← item_list script strict; pure (i.List xs))
+
+-- a comma or JOIN goes on with the tables
+abbrev pub goes_on : Sort → Bool
+goes_on a = is k.Comma a || is k.Join a
+
+unfoldable pub first_table : List ℕ → Reads FromText
+first_table script = do x ← fitem script; pure (table_of x None)
+
+unfoldable pub joined_table : List ℕ → Bool → Reads FromText
+joined_table script strict = do tok k.Join; x ← fitem script; tok k.On; y ← cond script strict; pure (table_of x (Some y))
+
+unfoldable pub further_table : List ℕ → Bool → Reads FromText
+further_table script strict = choose (is k.Comma) (past k.Comma (first_table script)) (joined_table script strict)
+
+unfoldable pub tables : List ℕ → Bool → Reads (List FromText)
+tables script strict = joined (first_table script) goes_on (further_table script strict)
+
+-- ---- WHERE, with EXISTS at its end
+
+unfoldable pub sub : List ℕ → Bool → Reads (Aliased × Option CondText)
+sub script strict = do tok k.Select; tok k.Star; tok k.From; x ← fitem script; y ← optional (is k.Where) (past k.Where (cond script strict)); pure (x, y)
+
+unfoldable pub semi : List ℕ → Bool → Reads SemiText
+semi script strict =
+    choose (is k.Exists) (do tok k.Exists; x ← single (sub script strict); pure (semi_of true x))
+    (do tok k.Not; tok k.Exists; x ← single (sub script strict); pure (semi_of false x))
+
+unfoldable pub semis : List ℕ → Bool → Reads (List SemiText)
+semis script strict = joined (semi script strict) (is k.And) (past k.And (semi script strict))
+
+-- EXISTS or NOT EXISTS comes
+unfoldable pub begins_semi : List Lexeme → Bool
+begins_semi ts = sees k.Exists ts || (sees k.Not ts && sees k.Exists (drop 1 ts))
+
+-- AND comes, and neither EXISTS nor NOT EXISTS after it
+unfoldable pub and_neg : List Lexeme → Bool
+and_neg ts = sees k.And ts && not (begins_semi (drop 1 ts))
+
+unfoldable pub where_end : List ℕ → Bool → Reads CondText → List CondText → Reads Where
+where_end script strict neg xs =
+    choose (is k.And) (do ss ← past k.And (semis script strict); pure (Some (all_of xs), ss))
+    (do ys ← more (is k.Or) (past k.Or (conj_of neg)); pure (Some (any_of (all_of xs ∷ ys)), []))
+
+unfoldable pub wcond_of : List ℕ → Bool → Reads CondText → Reads Where
+wcond_of script strict neg =
+    choose_if begins_semi (do ss ← semis script strict; pure (None, ss))
+    (do xs ← joined_if neg and_neg (past k.And neg); where_end script strict neg xs)
+
+-- of a live query, a condition without EXISTS
+unfoldable pub wcond : List ℕ → Bool → Bool → Reads Where
+wcond script strict true = do x ← cond script strict; pure (Some x, [])
+wcond script strict false = λ ts. wcond_of script strict (neg_in script strict (length ts)) ts
+
+-- ---- queries
+
+unfoldable pub core : List ℕ → Bool → Bool → Reads CoreText
+core script strict live = do
+  tok k.Select
+  xs ← items script strict
+  tok k.From
+  ts ← tables script strict
+  w ← optional (is k.Where) (past k.Where (wcond script strict live))
+  pure (core_of xs ts w)
+
+-- the operators between the cores of a query, and of a live query
+abbrev pub between_cores : Bool → Sort → Option SetOp
+between_cores true a = union_of a
+between_cores false a = set_op_of a
+
+unfoldable pub further_core : List ℕ → Bool → Bool → Reads RestText
+further_core script strict live = do op ← worded (between_cores live); x ← core script strict live; pure (rest_of op x)
+
+unfoldable pub query : List ℕ → Bool → Bool → Reads QueryText
+query script strict live = do x ← core script strict live; xs ← more (has (between_cores live)) (further_core script strict live); pure (query_of x xs)

@@ -85,14 +85,18 @@ word_from None = refuse
 unfoldable pub worded : {A : Type 0} → (Sort → Option A) → Reads A
 worded table = λ ts. word_from (table (sort_at ts)) ts
 
--- parts for as long as one of these sorts comes, at most so many
-abbrev pub more_from : {A : Type 0} → (Sort → Bool) → Reads A → ℕ → Reads (List A)
-more_from h p zero = pure []
-more_from h p (suc n) = choose h (do x ← p; xs ← more_from h p n; pure (x ∷ xs)) (pure [])
+-- parts for as long as the test holds, at most so many
+abbrev pub more_if_from : {A : Type 0} → (List Lexeme → Bool) → Reads A → ℕ → Reads (List A)
+more_if_from h p zero = pure []
+more_if_from h p (suc n) = choose_if h (do x ← p; xs ← more_if_from h p n; pure (x ∷ xs)) (pure [])
 
--- parts for as long as one of these sorts comes; the count of lexemes is turns enough
-unfoldable pub more : {A : Type 0} → (Sort → Bool) → Reads A → Reads (List A)
-more h p = λ ts. more_from h p (length ts) ts
+-- parts for as long as the test holds; the count of lexemes is turns enough
+unfoldable pub more_if : {A : Type 0} → (List Lexeme → Bool) → Reads A → Reads (List A)
+more_if h p = λ ts. more_if_from h p (length ts) ts
+
+-- parts for as long as one of these sorts comes
+abbrev pub more : {A : Type 0} → (Sort → Bool) → Reads A → Reads (List A)
+more h p = more_if (λ ts. h (sort_at ts)) p
 
 -- in parentheses
 abbrev pub single : {A : Type 0} → Reads A → Reads A
@@ -105,6 +109,10 @@ pair p = do tok k.LeftParen; x ← p; tok k.Comma; y ← p; tok k.RightParen; pu
 -- a part, and then further ones for as long as one of these sorts comes
 abbrev pub joined : {A : Type 0} → Reads A → (Sort → Bool) → Reads A → Reads (List A)
 joined p h q = do x ← p; xs ← more h q; pure (x ∷ xs)
+
+-- a part, and then further ones for as long as the test holds
+abbrev pub joined_if : {A : Type 0} → Reads A → (List Lexeme → Bool) → Reads A → Reads (List A)
+joined_if p h q = do x ← p; xs ← more_if h q; pure (x ∷ xs)
 
 -- a part where one of these sorts comes
 abbrev pub optional : {A : Type 0} → (Sort → Bool) → Reads A → Reads (Option A)

@@ -40,6 +40,10 @@ Never = λ ts x rest. ⊥
 abbrev pub Tok : Sort → Rule (Unit {0})
 Tok sort = λ ts x rest. (t : Lexeme) × (ts ≡ t ∷ rest) × (t.sort ≡ sort)
 
+-- what comes after a lexeme of the sort
+abbrev pub Past : {A : Type 0} → Sort → Rule A → Rule A
+Past sort P = Tok sort >> P
+
 -- the lexeme itself, of the sort
 abbrev pub One : Sort → Rule Lexeme
 One sort = λ ts x rest. (ts ≡ x ∷ rest) × (x.sort ≡ sort)

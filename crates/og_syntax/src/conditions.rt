@@ -1,6 +1,7 @@
 //! Conditions.
 ghost use Rattle.std.specs.Prelude.{◌≡◌, ◌∷◌, []};
 ghost use Rattle.og_syntax.specs.Reading.{Gives, past, more, with_front, single, pair};
+ghost use Rattle.og_syntax.specs.Clauses as clauses;
 ghost use Rattle.og_syntax.specs.Reader as spec;
 ghost use Rattle.og_syntax.specs.declared.lexeme.Sort.{Sort};
 
@@ -165,7 +166,7 @@ fn atom_in<'a>(
 
 // One by itself, or the list of several that are joined by AND.
 fn all_of(parts: Items<CondText>) -> CondText
-    ensures { result ≡ spec.all_of parts }
+    ensures { result ≡ clauses.all_of parts }
 {
     if parts.len() != 1 {
         return CondText::And(parts);
@@ -176,7 +177,7 @@ fn all_of(parts: Items<CondText>) -> CondText
 
 // One by itself, or the list of several that are joined by OR.
 fn any_of(parts: Items<CondText>) -> CondText
-    ensures { result ≡ spec.any_of parts }
+    ensures { result ≡ clauses.any_of parts }
 {
     if parts.len() != 1 {
         return CondText::Or(parts);
