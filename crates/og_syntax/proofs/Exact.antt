@@ -285,7 +285,8 @@ pub exact-ends : {A : Type 0} {e : Bool} {f : Sort → Bool} {F : Sort → Bool 
 exact-ends {A} {e} {f} {F} G E fewer = record {
   sound = E.sound;
   complete = λ ts x rest h after. E.complete ts x rest h (so _ _ (every_twice (λ a named. implies (G a named) (F a named)) fewer (sort_at rest) (sees k.Name (drop 1 rest))) after);
-  lead = E.lead }
+  lead = E.lead;
+}
 
 -- where anything may follow, fewer lexemes may
 pub exact-any : {A : Type 0} {e : Bool} {f : Sort → Bool} {G : Sort → Bool → Bool} {p : Reads A} {P : Rule A} → Exact e f anything p P → Exact e f G p P

@@ -1,4 +1,5 @@
 pub mod ConditionRules
+pub mod CoreRules
 pub mod EverySort
 pub mod Exact
 pub mod ExpressionRules

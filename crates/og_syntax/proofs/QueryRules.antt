@@ -38,10 +38,10 @@ unfolding alias IsAlias as_name same_sort
 exact-alias script =
     exact-loose
     (exact-choose (is k.Name) (exact-any {G = after_alias} (exact-map (exact-name script) Some))
-      (exact-choose_if as_name (exact-any (exact-after k.As refl (exact-map (exact-name script) Some))) (exact-any (exact-pure None))
-        (λ ts x rest h after. two_lexemes k.As k.Name ts h.1 h.2 (shrinks (exact-name script) h.1 h.3.0 h.3.1 h.3.2).0)
-        (λ ts x rest h after. no_alias ts rest h.1 after))
-      refl refl)
+    (exact-choose_if as_name (exact-any (exact-after k.As refl (exact-map (exact-name script) Some))) (exact-any (exact-pure None))
+    (λ ts x rest h after. two_lexemes k.As k.Name ts h.1 h.2 (shrinks (exact-name script) h.1 h.3.0 h.3.1 h.3.2).0)
+    (λ ts x rest h after. no_alias ts rest h.1 after))
+    refl refl)
     refl refl
 
 pub exact-fitem : (script : List ℕ) → Exact false (is k.Name) after_alias (fitem script) (IsFitem script)
@@ -58,7 +58,7 @@ unfolding item IsItem same_sort
 exact-item script strict =
     exact-loose
     (exact-bind (exact-expr script strict)
-      (λ x. exact-map (exact-ends after_item (exact-optional (is k.As) (exact-after k.As refl (exact-name script)) refl) refl) (item_of x)) refl)
+    (λ x. exact-map (exact-ends after_item (exact-optional (is k.As) (exact-after k.As refl (exact-name script)) refl) refl) (item_of x)) refl)
     refl refl
 
 abbrev pub after_items : Sort → Bool → Bool
@@ -113,7 +113,7 @@ unfolding sub IsSub same_sort
 exact-sub script strict =
     exact-after k.Select refl (exact-after k.Star refl (exact-after k.From refl
     (exact-bind (exact-fitem script)
-      (λ x. exact-map (exact-ends after_sub (exact-optional (is k.Where) (exact-after k.Where refl (exact-cond script strict)) refl) refl) (λ y. (x, y))) refl)))
+    (λ x. exact-map (exact-ends after_sub (exact-optional (is k.Where) (exact-after k.Where refl (exact-cond script strict)) refl) refl) (λ y. (x, y))) refl)))
 
 abbrev pub semi_begins : Sort → Bool
 semi_begins a = is k.Exists a || is k.Not a

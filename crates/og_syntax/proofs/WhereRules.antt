@@ -53,14 +53,16 @@ between Neg ts x [] rest m =
       last_end = n.1;
       first = subst (λ y. Neg ts y n.1) (sym s.3.0) n.2;
       others = refl;
-      then_and = subst (λ r. Tok k.And n.1 tt r) (sym (m.2 ∙ s.3.1)) s.2 }
+      then_and = subst (λ r. Tok k.And n.1 tt r) (sym (m.2 ∙ s.3.1)) s.2;
+    }
 between Neg ts x (y ∷ ys) rest m =
     let n = m.1 in let s = n.3 in let later = between Neg m.0 y ys rest m.2 in record {
       first_end = n.1;
       last_end = later.last_end;
       first = subst (λ y. Neg ts y n.1) (sym s.3.0) n.2;
       others = (later.first_end, (tt, m.0, subst (λ r. Tok k.And n.1 tt r) (sym s.3.1) s.2, later.first), later.others);
-      then_and = later.then_and }
+      then_and = later.then_and;
+    }
 
 -- ---- the end of WHERE
 
@@ -75,9 +77,9 @@ unfolding where_end WhereEnd same_sort
 exact-where_end script strict E xs =
     exact-loose
     (exact-choose (is k.And)
-      (exact-ends after_cond (exact-map (exact-after k.And refl (exact-semis script strict)) (λ ss. (Some (all_of xs), ss))) refl)
-      (exact-ends after_cond (exact-map (exact-more (exact-after k.Or refl (exact-conj_of E)) refl) (λ ys. (Some (any_of (all_of xs ∷ ys)), []))) refl)
-      refl refl)
+    (exact-ends after_cond (exact-map (exact-after k.And refl (exact-semis script strict)) (λ ss. (Some (all_of xs), ss))) refl)
+    (exact-ends after_cond (exact-map (exact-more (exact-after k.Or refl (exact-conj_of E)) refl) (λ ys. (Some (any_of (all_of xs ∷ ys)), []))) refl)
+    refl refl)
     refl refl
 
 -- ---- what comes after AND
@@ -122,7 +124,7 @@ fronts_complete {neg} {Neg} E N ts xs rest h after stop =
     let later : ahead after_expr m.1 ≡ true = subst (λ r. ahead after_expr r ≡ true) m.3.1 after in
     ap (λ r. and_then r (λ x. reading.bind (more_if and_neg (past k.And neg)) (λ xs. reading.pure (x ∷ xs)))) (E.complete ts h.0 h.1 h.2 (many_ahead e refl h.1 m.0 m.1 m.2 later))
     ∙ ap (λ r. and_then r (λ xs. reading.pure (h.0 ∷ xs)))
-      (more_complete and_neg e refl (goes_on_here N) (length h.1) h.1 m.0 m.1 m.2 later (subst (λ r. and_neg r ≡ false) m.3.1 stop) (le_refl _))
+    (more_complete and_neg e refl (goes_on_here N) (length h.1) h.1 m.0 m.1 m.2 later (subst (λ r. and_neg r ≡ false) m.3.1 stop) (le_refl _))
     ∙ got_same (h.0 ∷ m.0) xs m.1 rest (sym m.3.0) (sym m.3.1)
 
 -- what is read is by one of the two lines
@@ -131,24 +133,28 @@ wcond_sound : (script : List ℕ) (strict : Bool) {neg : Reads CondText} {Neg : 
 unfolding wcond_of IsWcondOf IsCondOf IsConjOf more_if WhereEnd same_sort
 wcond_sound script strict {neg} {Neg} E ts w rest e =
     go (if_sound (begins_semi ts) _ _ w rest _ _
-      ((exact-map (exact-semis script strict) (λ ss. (None, ss))).sound ts w rest)
-      (bind_sound (joined_if neg and_neg (past k.And neg)) (Joined Neg (Past k.And Neg)) (where_end script strict neg) (WhereEnd script strict Neg)
-        (bind_sound neg Neg (λ x. reading.bind (more_if and_neg (past k.And neg)) (λ xs. reading.pure (x ∷ xs))) (λ x. rules_.Bind (Many (Past k.And Neg)) (λ xs. rules_.pure (x ∷ xs))) E.sound
-          (λ x. bind_sound (more_if and_neg (past k.And neg)) (Many (Past k.And Neg)) (λ xs. reading.pure (x ∷ xs)) (λ xs. rules_.pure (x ∷ xs))
-            (λ ts. more_sound and_neg (past k.And neg) (Past k.And Neg) (exact-after k.And refl E).sound (length ts) ts) (λ xs. (exact-pure (x ∷ xs)).sound)))
-        (λ xs. (exact-where_end script strict E xs).sound) ts w rest)
-      e)
+    ((exact-map (exact-semis script strict) (λ ss. (None, ss))).sound ts w rest)
+    (bind_sound (joined_if neg and_neg (past k.And neg)) (Joined Neg (Past k.And Neg)) (where_end script strict neg) (WhereEnd script strict Neg)
+    (bind_sound neg Neg (λ x. reading.bind (more_if and_neg (past k.And neg)) (λ xs. reading.pure (x ∷ xs))) (λ x. rules_.Bind (Many (Past k.And Neg)) (λ xs. rules_.pure (x ∷ xs))) E.sound
+    (λ x. bind_sound (more_if and_neg (past k.And neg)) (Many (Past k.And Neg)) (λ xs. reading.pure (x ∷ xs)) (λ xs. rules_.pure (x ∷ xs))
+    (λ ts. more_sound and_neg (past k.And neg) (Past k.And Neg) (exact-after k.And refl E).sound (length ts) ts) (λ xs. (exact-pure (x ∷ xs)).sound)))
+    (λ xs. (exact-where_end script strict E xs).sound) ts w rest)
+    e)
   where
     plain : (ts : List Lexeme) (xs : List CondText) (b : List Lexeme) (w : Where) (rest : List Lexeme) → Joined Neg (Past k.And Neg) ts xs b → WhereEnd script strict Neg xs b w rest
         → IsWcondOf script strict Neg ts w rest
     plain ts xs b w rest h (inl s) =
         let m = h.3 in
         let p = s.2 in
-        inr (h.0 ∷ m.0, p.1,
+        inr (
+          h.0 ∷ m.0,
+          p.1,
           after_each Neg ts h.0 h.1 m.0 b p.1 h.2 (subst (λ r. Many (Past k.And Neg) h.1 m.0 r) (sym m.3.1) m.2) p.2,
-          (s.0, s.1, p.3, (s.3.0 ∙ ap (λ xs. (Some (all_of xs), s.0)) m.3.0, s.3.1)))
+          (s.0, s.1, p.3, (s.3.0 ∙ ap (λ xs. (Some (all_of xs), s.0)) m.3.0, s.3.1)),
+        )
     plain ts xs b w rest h (inr s) =
         inl (any_of (all_of xs ∷ s.0), s.1, (all_of xs ∷ s.0, s.1, (all_of xs, b, (xs, b, h, (refl, refl)), (s.0, s.1, s.2, (refl, refl))), (refl, refl)), s.3)
+
     go : rules_.Bind (IsSemis script strict) (λ ss. rules_.pure (None, ss)) ts w rest ⊎ rules_.Bind (Joined Neg (Past k.And Neg)) (WhereEnd script strict Neg) ts w rest
         → IsWcondOf script strict Neg ts w rest
     go (inl s) = inr ([], ts, refl, s)
@@ -168,10 +174,10 @@ wcond_complete script strict {neg} {Neg} E N ts w rest (inl h) after =
     ap (λ b. if b then reading.bind (semis script strict) (λ ss. reading.pure (None, ss)) ts else reading.bind (joined_if neg and_neg (past k.And neg)) (where_end script strict neg) ts)
     (N ts conj.2.0 conj.2.1 conj.2.2)
     ∙ ap (λ r. and_then r (where_end script strict neg))
-      (fronts_complete E N ts conj.0 q.1 (subst (λ r. Joined Neg (Past k.And Neg) ts conj.0 r) (sym conj.3.1) conj.2) (left_of (ahead after_expr q.1) _ at_or)
-        (no_and q.1 (not_true _ (right_of (ahead after_expr q.1) _ at_or))))
+    (fronts_complete E N ts conj.0 q.1 (subst (λ r. Joined Neg (Past k.And Neg) ts conj.0 r) (sym conj.3.1) conj.2) (left_of (ahead after_expr q.1) _ at_or)
+    (no_and q.1 (not_true _ (right_of (ahead after_expr q.1) _ at_or))))
     ∙ (exact-where_end script strict E conj.0).complete q.1 w rest
-      (inr (ors.0, ors.1, ors.2, (h.3.0 ∙ ap (λ x. (Some x, [])) (p.3.0 ∙ ap any_of (ors.3.0 ∙ ap (λ c. c ∷ ors.0) conj.3.0)), h.3.1 ∙ p.3.1 ∙ ors.3.1))) after
+    (inr (ors.0, ors.1, ors.2, (h.3.0 ∙ ap (λ x. (Some x, [])) (p.3.0 ∙ ap any_of (ors.3.0 ∙ ap (λ c. c ∷ ors.0) conj.3.0)), h.3.1 ∙ p.3.1 ∙ ors.3.1))) after
 wcond_complete script strict {neg} {Neg} E N ts w rest (inr h) after = go h.0 h.2 h.3
   where
     go : (xs : List CondText) → Many (With Neg) ts xs h.1 → rules_.Bind (IsSemis script strict) (λ ss. rules_.pure (before_semis xs, ss)) h.1 w rest → wcond_of script strict neg ts ≡ got w rest
@@ -185,8 +191,8 @@ wcond_complete script strict {neg} {Neg} E N ts w rest (inr h) after = go h.0 h.
         ap (λ b. if b then reading.bind (semis script strict) (λ ss. reading.pure (None, ss)) ts else reading.bind (joined_if neg and_neg (past k.And neg)) (where_end script strict neg) ts)
         (N ts x b.first_end b.first)
         ∙ ap (λ r. and_then r (where_end script strict neg))
-          (fronts_complete E N ts (x ∷ xs) b.last_end (x, b.first_end, b.first, (xs, b.last_end, b.others, (refl, refl)))
-            (and_ahead b.last_end h.1 b.then_and) (semi_after b.last_end h.1 b.then_and (semis_come script strict h.1 s.0 s.1 s.2)))
+        (fronts_complete E N ts (x ∷ xs) b.last_end (x, b.first_end, b.first, (xs, b.last_end, b.others, (refl, refl)))
+        (and_ahead b.last_end h.1 b.then_and) (semi_after b.last_end h.1 b.then_and (semis_come script strict h.1 s.0 s.1 s.2)))
         ∙ (exact-where_end script strict E (x ∷ xs)).complete b.last_end w rest (inl (s.0, s.1, (tt, h.1, b.then_and, s.2), s.3)) after
 
 abbrev pub where_begins : Sort → Bool
@@ -202,12 +208,15 @@ wcond_lead script strict {neg} {Neg} E ts w rest (inr h) = go (bind_lead some (�
   where
     one : Exact false (λ a. neg_begins a || (false && is k.And a)) anything (reading.bind neg (λ x. reading.bind (reading.tok k.And) (λ _. reading.pure x))) (With Neg)
     one = exact-bind E (λ x. exact-map (exact-tok k.And refl) (λ _. x)) refl
+
     some : Exact true (λ a. neg_begins a || (false && is k.And a)) (λ a named. true && not (neg_begins a || (false && is k.And a)))
         (reading.more (λ a. neg_begins a || (false && is k.And a)) (reading.bind neg (λ x. reading.bind (reading.tok k.And) (λ _. reading.pure x)))) (Many (With Neg))
     some = exact-more one refl
+
     begins : (a b c : Bool) → ((a || (false && b)) || (true && c)) ≡ true → (a || c) ≡ true
     begins true b c e = refl
     begins false b c e = e
+
     go : ((((neg_begins (sort_at ts) || (false && is k.And (sort_at ts))) || (true && semi_begins (sort_at ts))) ≡ true) × (length rest < length ts)) ⊎ (((true && false) ≡ true) × (rest ≡ ts))
         → ((where_begins (sort_at ts) ≡ true) × (length rest < length ts)) ⊎ ((false ≡ true) × (rest ≡ ts))
     go (inl a) = inl (begins (neg_begins (sort_at ts)) (is k.And (sort_at ts)) (semi_begins (sort_at ts)) a.0, a.1)
@@ -218,7 +227,8 @@ pub exact-wcond_of : (script : List ℕ) (strict : Bool) {neg : Reads CondText} 
 exact-wcond_of script strict E N = record {
   sound = wcond_sound script strict E;
   complete = wcond_complete script strict E N;
-  lead = wcond_lead script strict E }
+  lead = wcond_lead script strict E;
+}
 
 -- ---- no negation begins with EXISTS or with NOT EXISTS
 
@@ -229,7 +239,6 @@ no_semi_by ts e f = neither _ _ e f
     neither : (a b : Bool) → a ≡ false → b ≡ false → (a || b) ≡ false
     neither true b e f = cc
     neither false b e f = f
-
 
 pub neg_no_semi : (script : List ℕ) (strict : Bool) (d : ℕ) → NoSemi (IsNegIn script strict d)
 unfolding IsNegIn same_sort
@@ -247,7 +256,8 @@ exact-wcond script strict true = exact-loose (exact-map (exact-cond script stric
 exact-wcond script strict false = record {
   sound = λ ts. (exact-wcond_of script strict (exact-neg_in script strict (length ts)) (neg_no_semi script strict (length ts))).sound ts;
   complete = λ ts. (exact-wcond_of script strict (exact-neg_in script strict (length ts)) (neg_no_semi script strict (length ts))).complete ts;
-  lead = λ ts. (exact-wcond_of script strict (exact-neg_in script strict (length ts)) (neg_no_semi script strict (length ts))).lead ts }
+  lead = λ ts. (exact-wcond_of script strict (exact-neg_in script strict (length ts)) (neg_no_semi script strict (length ts))).lead ts;
+}
 
 -- ---- the parts of lists
 

@@ -3,12 +3,14 @@
 
 mod conditions;
 mod expressions;
+mod items;
 mod lexeme;
 mod literals;
 mod meaning;
 mod refusal;
 mod spelling;
 mod step;
+mod tables;
 mod tree;
 
 pub use conditions::condition;

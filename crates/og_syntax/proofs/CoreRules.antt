@@ -1,0 +1,47 @@
+-- Each reader of cores and of queries is its rule.
+use Rattle.std.proofs.Common.{◌≡◌, ℕ, Bool, true, false, not, ◌&&◌, ◌||◌, List, Option, Some, None, refl, sym, ap, ◌∙◌}
+use Rattle.og_syntax.specs.declared.lexeme.Sort.{Sort}
+use Rattle.og_syntax.specs.declared.lexeme.Sort.TheVariants as k
+use Rattle.og_syntax.specs.declared.lexeme.Lexeme.{Lexeme}
+use Rattle.og_syntax.specs.Lexemes.{same_sort, sort_at}
+use Rattle.og_syntax.specs.Meanings.{set_op_of, union_of}
+use Rattle.og_syntax.specs.Reading.{has}
+use Rattle.og_syntax.specs.Clauses.{core_of, rest_of, query_of}
+use Rattle.og_syntax.specs.Reader.{is, core, between_cores, further_core, query}
+use Rattle.og_syntax.specs.Grammar.{IsCore, IsFurtherCore, IsQuery}
+use Rattle.og_syntax.proofs.Exact.{Exact, exact-worded, exact-bind, exact-then, exact-after, exact-map, exact-loose, exact-ends, exact-optional, exact-more}
+use Rattle.og_syntax.proofs.Loops.{IsPart, is_part}
+use Rattle.og_syntax.proofs.QueryRules.{after_tables, exact-items, exact-tables}
+use Rattle.og_syntax.proofs.WhereRules.{exact-wcond}
+
+abbrev pub after_core : Sort → Bool → Bool
+after_core a named = after_tables a named && not (is k.Where a)
+
+pub exact-core : (script : List ℕ) (strict live : Bool) → Exact false (is k.Select) after_core (core script strict live) (IsCore script strict live)
+unfolding core IsCore same_sort
+exact-core script strict live =
+    exact-after k.Select refl
+    (exact-bind (exact-items script strict) (λ xs. exact-after k.From refl
+    (exact-bind (exact-tables script strict)
+    (λ ts. exact-map (exact-ends after_core (exact-optional (is k.Where) (exact-after k.Where refl (exact-wcond script strict live)) refl) refl) (core_of xs ts)) refl)) refl)
+
+pub exact-further_core : (script : List ℕ) (strict live : Bool) → Exact false (has (between_cores live)) after_core (further_core script strict live) (IsFurtherCore script strict live)
+unfolding further_core IsFurtherCore same_sort
+exact-further_core script strict true =
+    exact-loose (exact-then (exact-worded (between_cores true) refl) (λ op. exact-map (exact-core script strict true) (rest_of op))) refl refl
+exact-further_core script strict false =
+    exact-loose (exact-then (exact-worded (between_cores false) refl) (λ op. exact-map (exact-core script strict false) (rest_of op))) refl refl
+
+abbrev pub after_query : Sort → Bool → Bool
+after_query a named = after_core a named && not (has set_op_of a)
+
+pub exact-query : (script : List ℕ) (strict live : Bool) → Exact false (is k.Select) after_query (query script strict live) (IsQuery script strict live)
+unfolding query IsQuery same_sort
+exact-query script strict true =
+    exact-loose (exact-bind (exact-core script strict true) (λ x. exact-map (exact-more (exact-further_core script strict true) refl) (query_of x)) refl) refl refl
+exact-query script strict false =
+    exact-loose (exact-bind (exact-core script strict false) (λ x. exact-map (exact-more (exact-further_core script strict false) refl) (query_of x)) refl) refl refl
+
+pub core_part : (script : List ℕ) (strict live : Bool) → IsPart (λ ts. has (between_cores live) (sort_at ts)) (further_core script strict live)
+core_part script strict true = is_part (λ ts. has (between_cores true) (sort_at ts)) refl (exact-further_core script strict true)
+core_part script strict false = is_part (λ ts. has (between_cores false) (sort_at ts)) refl (exact-further_core script strict false)

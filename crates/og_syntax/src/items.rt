@@ -1,0 +1,80 @@
+//! What a SELECT gives.
+ghost use Rattle.std.specs.Prelude.{◌≡◌, ◌∷◌, [], None, Some};
+ghost use Rattle.og_syntax.specs.declared.lexeme.Sort.{Sort};
+ghost use Rattle.og_syntax.specs.Reading.{Gives, past, more, with_front};
+ghost use Rattle.og_syntax.specs.Reader as spec;
+
+use crate::expressions::expression;
+use crate::lexeme::{Lexeme, Sort};
+use crate::refusal::Refusal;
+use crate::spelling::name;
+use crate::step::{after, expect, same_sort, sort_at};
+use crate::tree::{ItemText, ItemsText};
+use sqlite_items::Items;
+use std::alloc::Global;
+
+// All columns, or a list of items.
+#[tactic(auto, unfolding(crate::specs::Reader::items, crate::specs::Reader::item_list))]
+pub fn items<'a>(
+    alloc: Global,
+    script: &[u8],
+    strict: bool,
+    lexemes: &'a [Lexeme],
+) -> Result<(ItemsText, &'a [Lexeme]), Refusal>
+    ensures { Gives result (spec.items script.now strict lexemes.now) }
+{
+    if same_sort(sort_at(lexemes), Sort::Star) {
+        let rest = expect(lexemes, Sort::Star)?;
+        return Ok((ItemsText::Star, rest));
+    }
+    let (first, rest) = item(alloc, script, strict, lexemes)?;
+    let mut parts = Items::new(alloc);
+    parts.push(first)?;
+    let (parts, rest) = more_items(alloc, script, strict, rest, parts)?;
+    Ok((ItemsText::List(parts), rest))
+}
+
+// Further items, each after a comma, behind the parts that were read before.
+fn more_items<'a>(
+    alloc: Global,
+    script: &[u8],
+    strict: bool,
+    lexemes: &'a [Lexeme],
+    parts: Items<ItemText>,
+) -> Result<(Items<ItemText>, &'a [Lexeme]), Refusal>
+    ensures { Gives result (with_front parts (more (spec.is Sort.Comma) (past Sort.Comma (spec.item script.now strict)) lexemes.now)) }
+{
+    let mut parts = parts;
+    let mut rest = lexemes;
+    'more: while same_sort(sort_at(rest), Sort::Comma) {
+        let (part, left) = item(alloc, script, strict, after(rest))?;
+        parts.push(part)?;
+        rest = left;
+    }
+    Ok((parts, rest))
+}
+
+// An expression, with the name that AS gives it.
+#[tactic(auto, unfolding(crate::specs::Reader::item))]
+fn item<'a>(
+    alloc: Global,
+    script: &[u8],
+    strict: bool,
+    lexemes: &'a [Lexeme],
+) -> Result<(ItemText, &'a [Lexeme]), Refusal>
+    ensures { Gives result (spec.item script.now strict lexemes.now) }
+{
+    let (expr, rest) = expression(alloc, script, strict, lexemes)?;
+    if same_sort(sort_at(rest), Sort::As) {
+        let rest = expect(rest, Sort::As)?;
+        let (name, rest) = name(alloc, script, rest)?;
+        return Ok((
+            ItemText {
+                expr,
+                name: Some(name),
+            },
+            rest,
+        ));
+    }
+    Ok((ItemText { expr, name: None }, rest))
+}

@@ -1,0 +1,151 @@
+//! Names of tables with their aliases, and what stands after FROM.
+ghost use Rattle.std.specs.Prelude.{◌≡◌, ◌&&◌, ◌||◌, ◌∷◌, [], drop, None, Some};
+ghost use Rattle.og_syntax.specs.Lexemes.{sees, sort_at};
+ghost use Rattle.og_syntax.specs.Reading.{Gives, more, with_front};
+ghost use Rattle.og_syntax.specs.Clauses as clauses;
+ghost use Rattle.og_syntax.specs.Reader as spec;
+
+use crate::conditions::condition;
+use crate::lexeme::{Lexeme, Sort};
+use crate::refusal::Refusal;
+use crate::spelling::name;
+use crate::step::{after, expect, same_sort, sees, sort_at};
+use crate::tree::FromText;
+use og_value::Name;
+use sqlite_items::Items;
+use std::alloc::Global;
+
+// A name and its alias.
+#[tactic(auto, unfolding(crate::specs::Reader::fitem))]
+pub fn table_name<'a>(
+    alloc: Global,
+    script: &[u8],
+    lexemes: &'a [Lexeme],
+) -> Result<((Name, Option<Name>), &'a [Lexeme]), Refusal>
+    ensures { Gives result (spec.fitem script.now lexemes.now) }
+{
+    let (name, rest) = name(alloc, script, lexemes)?;
+    let (alias, rest) = alias(alloc, script, rest)?;
+    Ok(((name, alias), rest))
+}
+
+// An alias, after AS or not, or none.
+#[tactic(auto, unfolding(crate::specs::Reader::alias))]
+fn alias<'a>(
+    alloc: Global,
+    script: &[u8],
+    lexemes: &'a [Lexeme],
+) -> Result<(Option<Name>, &'a [Lexeme]), Refusal>
+    ensures { Gives result (spec.alias script.now lexemes.now) }
+{
+    if same_sort(sort_at(lexemes), Sort::Name) {
+        let (alias, rest) = name(alloc, script, lexemes)?;
+        return Ok((Some(alias), rest));
+    }
+    if as_name(lexemes) {
+        let rest = expect(lexemes, Sort::As)?;
+        let (alias, rest) = name(alloc, script, rest)?;
+        return Ok((Some(alias), rest));
+    }
+    Ok((None, lexemes))
+}
+
+// Whether AS comes and a name after it.
+#[tactic(auto, unfolding(crate::specs::Reader::as_name))]
+fn as_name(lexemes: &[Lexeme]) -> bool
+    ensures { result ≡ spec.as_name lexemes.now }
+{
+    sees(lexemes, Sort::As) && sees(after(lexemes), Sort::Name)
+}
+
+// What stands after FROM.
+#[tactic(auto, unfolding(crate::specs::Reader::tables))]
+pub fn tables<'a>(
+    alloc: Global,
+    script: &[u8],
+    strict: bool,
+    lexemes: &'a [Lexeme],
+) -> Result<(Items<FromText>, &'a [Lexeme]), Refusal>
+    ensures { Gives result (spec.tables script.now strict lexemes.now) }
+{
+    let (first, rest) = first_table(alloc, script, lexemes)?;
+    let mut parts = Items::new(alloc);
+    parts.push(first)?;
+    more_tables(alloc, script, strict, rest, parts)
+}
+
+// Further tables, behind the parts that were read before.
+fn more_tables<'a>(
+    alloc: Global,
+    script: &[u8],
+    strict: bool,
+    lexemes: &'a [Lexeme],
+    parts: Items<FromText>,
+) -> Result<(Items<FromText>, &'a [Lexeme]), Refusal>
+    ensures { Gives result (with_front parts (more spec.goes_on (spec.further_table script.now strict) lexemes.now)) }
+{
+    let mut parts = parts;
+    let mut rest = lexemes;
+    'more: while goes_on(rest) {
+        let (part, left) = further_table(alloc, script, strict, rest)?;
+        parts.push(part)?;
+        rest = left;
+    }
+    Ok((parts, rest))
+}
+
+// Whether a comma or JOIN comes.
+fn goes_on(lexemes: &[Lexeme]) -> bool
+    ensures { result ≡ spec.goes_on (sort_at lexemes.now) }
+{
+    let sort = sort_at(lexemes);
+    same_sort(sort, Sort::Comma) || same_sort(sort, Sort::Join)
+}
+
+// The first table, or one after a comma.
+#[tactic(auto, unfolding(crate::specs::Reader::first_table))]
+fn first_table<'a>(
+    alloc: Global,
+    script: &[u8],
+    lexemes: &'a [Lexeme],
+) -> Result<(FromText, &'a [Lexeme]), Refusal>
+    ensures { Gives result (spec.first_table script.now lexemes.now) }
+{
+    let ((name, alias), rest) = table_name(alloc, script, lexemes)?;
+    Ok((
+        FromText {
+            name,
+            alias,
+            on: None,
+        },
+        rest,
+    ))
+}
+
+// A table after a comma, or after JOIN with its condition.
+#[tactic(auto, unfolding(crate::specs::Reader::further_table, crate::specs::Reader::joined_table))]
+fn further_table<'a>(
+    alloc: Global,
+    script: &[u8],
+    strict: bool,
+    lexemes: &'a [Lexeme],
+) -> Result<(FromText, &'a [Lexeme]), Refusal>
+    ensures { Gives result (spec.further_table script.now strict lexemes.now) }
+{
+    if same_sort(sort_at(lexemes), Sort::Comma) {
+        let rest = expect(lexemes, Sort::Comma)?;
+        return first_table(alloc, script, rest);
+    }
+    let rest = expect(lexemes, Sort::Join)?;
+    let ((name, alias), rest) = table_name(alloc, script, rest)?;
+    let rest = expect(rest, Sort::On)?;
+    let (on, rest) = condition(alloc, script, strict, rest)?;
+    Ok((
+        FromText {
+            name,
+            alias,
+            on: Some(on),
+        },
+        rest,
+    ))
+}
