@@ -48,7 +48,7 @@ pub fn condition_in<'a>(
 
 // Further conjunctions, each after OR, behind the parts that were read before.
 #[cycle(conditions)]
-fn more_conjunctions_in<'a>(
+pub fn more_conjunctions_in<'a>(
     alloc: Global,
     script: &[u8],
     strict: bool,
@@ -165,7 +165,7 @@ fn atom_in<'a>(
 }
 
 // One by itself, or the list of several that are joined by AND.
-fn all_of(parts: Items<CondText>) -> CondText
+pub fn all_of(parts: Items<CondText>) -> CondText
     ensures { result ≡ clauses.all_of parts }
 {
     if parts.len() != 1 {
@@ -176,7 +176,7 @@ fn all_of(parts: Items<CondText>) -> CondText
 }
 
 // One by itself, or the list of several that are joined by OR.
-fn any_of(parts: Items<CondText>) -> CondText
+pub fn any_of(parts: Items<CondText>) -> CondText
     ensures { result ≡ clauses.any_of parts }
 {
     if parts.len() != 1 {

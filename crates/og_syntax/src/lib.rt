@@ -7,16 +7,20 @@ mod items;
 mod lexeme;
 mod literals;
 mod meaning;
+mod queries;
 mod refusal;
+mod semis;
 mod spelling;
 mod step;
 mod tables;
 mod tree;
+mod wheres;
 
 pub use conditions::condition;
 pub use expressions::expression;
 pub use lexeme::{Lexeme, Sort};
 pub use literals::literal;
+pub use queries::query;
 pub use refusal::Refusal;
 pub use tree::{
     CondText, CoreText, ExprText, FromText, ItemText, ItemsText, QueryText, RestText, Script,

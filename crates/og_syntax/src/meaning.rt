@@ -70,3 +70,13 @@ pub fn set_op_of(sort: Sort) -> Option<SetOp>
         _ => None,
     }
 }
+
+// The operator between two queries, where it is UNION.
+pub fn union_of(sort: Sort) -> Option<SetOp>
+    ensures { result ≡ spec.union_of sort }
+{
+    match sort {
+        Sort::Union => Some(SetOp::Union),
+        _ => None,
+    }
+}

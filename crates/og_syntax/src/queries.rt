@@ -1,0 +1,136 @@
+//! Queries.
+ghost use Rattle.std.specs.Prelude.{◌≡◌, ◌∷◌, [], None, Some};
+ghost use Rattle.og_syntax.specs.Lexemes.{sort_at};
+ghost use Rattle.og_syntax.specs.Reading.{Gives, has, more, with_front};
+ghost use Rattle.og_syntax.specs.Reader as spec;
+
+use crate::items::items;
+use crate::lexeme::{Lexeme, Sort};
+use crate::meaning::{set_op_of, union_of};
+use crate::refusal::Refusal;
+use crate::step::{after, expect, same_sort, sort_at};
+use crate::tables::tables;
+use crate::tree::{CoreText, QueryText, RestText};
+use crate::wheres::where_condition;
+use og_value::SetOp;
+use sqlite_items::Items;
+use std::alloc::Global;
+
+/// The query that the lexemes begin with, and the lexemes after it. A live query has no EXISTS, and
+/// only UNION between its cores.
+#[tactic(auto, unfolding(crate::specs::Reader::query))]
+pub fn query<'a>(
+    alloc: Global,
+    script: &[u8],
+    strict: bool,
+    live: bool,
+    lexemes: &'a [Lexeme],
+) -> Result<(QueryText, &'a [Lexeme]), Refusal>
+    ensures { Gives result (spec.query script.now strict live lexemes.now) }
+{
+    let (first, rest) = query_core(alloc, script, strict, live, lexemes)?;
+    let (others, rest) = more_cores(alloc, script, strict, live, rest, Items::new(alloc))?;
+    Ok((
+        QueryText {
+            first,
+            rest: others,
+        },
+        rest,
+    ))
+}
+
+// Further cores, behind the parts that were read before.
+fn more_cores<'a>(
+    alloc: Global,
+    script: &[u8],
+    strict: bool,
+    live: bool,
+    lexemes: &'a [Lexeme],
+    parts: Items<RestText>,
+) -> Result<(Items<RestText>, &'a [Lexeme]), Refusal>
+    ensures { Gives result (with_front parts (more (has (spec.between_cores live)) (spec.further_core script.now strict live) lexemes.now)) }
+{
+    let mut parts = parts;
+    let mut rest = lexemes;
+    'more: while goes_on(live, rest) {
+        let (part, left) = further_core(alloc, script, strict, live, rest)?;
+        parts.push(part)?;
+        rest = left;
+    }
+    Ok((parts, rest))
+}
+
+// Whether an operator between cores comes.
+fn goes_on(live: bool, lexemes: &[Lexeme]) -> bool
+    ensures { result ≡ has (spec.between_cores live) (sort_at lexemes.now) }
+{
+    between_cores(live, sort_at(lexemes)).is_some()
+}
+
+// The operator between two cores.
+fn between_cores(live: bool, sort: Sort) -> Option<SetOp>
+    ensures { result ≡ spec.between_cores live sort }
+{
+    if live {
+        union_of(sort)
+    } else {
+        set_op_of(sort)
+    }
+}
+
+// A core after its operator.
+#[tactic(auto, unfolding(crate::specs::Reader::further_core, crate::specs::Reading::worded))]
+fn further_core<'a>(
+    alloc: Global,
+    script: &[u8],
+    strict: bool,
+    live: bool,
+    lexemes: &'a [Lexeme],
+) -> Result<(RestText, &'a [Lexeme]), Refusal>
+    ensures { Gives result (spec.further_core script.now strict live lexemes.now) }
+{
+    let Some(op) = between_cores(live, sort_at(lexemes)) else {
+        return Err(Refusal::Syntax);
+    };
+    let (core, rest) = query_core(alloc, script, strict, live, after(lexemes))?;
+    Ok((RestText { op, core }, rest))
+}
+
+// A SELECT.
+#[tactic(auto, unfolding(crate::specs::Reader::core))]
+fn query_core<'a>(
+    alloc: Global,
+    script: &[u8],
+    strict: bool,
+    live: bool,
+    lexemes: &'a [Lexeme],
+) -> Result<(CoreText, &'a [Lexeme]), Refusal>
+    ensures { Gives result (spec.core script.now strict live lexemes.now) }
+{
+    let rest = expect(lexemes, Sort::Select)?;
+    let (items, rest) = items(alloc, script, strict, rest)?;
+    let rest = expect(rest, Sort::From)?;
+    let (tables, rest) = tables(alloc, script, strict, rest)?;
+    if same_sort(sort_at(rest), Sort::Where) {
+        let rest = expect(rest, Sort::Where)?;
+        let ((cond, semis), rest) = where_condition(alloc, script, strict, live, rest)?;
+        return Ok((
+            CoreText {
+                items,
+                tables,
+                cond,
+                semis,
+            },
+            rest,
+        ));
+    }
+    Ok((
+        CoreText {
+            items,
+            tables,
+            cond: None,
+            semis: Items::new(alloc),
+        },
+        rest,
+    ))
+}

@@ -1,0 +1,137 @@
+//! Conditions of EXISTS and NOT EXISTS.
+ghost use Rattle.std.specs.Prelude.{◌≡◌, ◌&&◌, ◌||◌, ◌∷◌, [], drop, None, Some, true, false};
+ghost use Rattle.og_syntax.specs.declared.lexeme.Sort.{Sort};
+ghost use Rattle.og_syntax.specs.Lexemes.{sees};
+ghost use Rattle.og_syntax.specs.Reading.{Gives, past, more, single, with_front};
+ghost use Rattle.og_syntax.specs.Reader as spec;
+
+use crate::conditions::condition;
+use crate::lexeme::{Lexeme, Sort};
+use crate::refusal::Refusal;
+use crate::step::{after, expect, same_sort, sees, sort_at};
+use crate::tables::table_name;
+use crate::tree::{CondText, SemiText};
+use og_value::Name;
+use sqlite_items::Items;
+use std::alloc::Global;
+
+// What a sub-select says: its table, and its condition.
+type Sub = ((Name, Option<Name>), Option<CondText>);
+
+// Several of them, with AND between them.
+#[tactic(auto, unfolding(crate::specs::Reader::semis))]
+pub fn semis<'a>(
+    alloc: Global,
+    script: &[u8],
+    strict: bool,
+    lexemes: &'a [Lexeme],
+) -> Result<(Items<SemiText>, &'a [Lexeme]), Refusal>
+    ensures { Gives result (spec.semis script.now strict lexemes.now) }
+{
+    let (first, rest) = semi(alloc, script, strict, lexemes)?;
+    let mut parts = Items::new(alloc);
+    parts.push(first)?;
+    more_semis(alloc, script, strict, rest, parts)
+}
+
+// Further ones, each after AND, behind the parts that were read before.
+fn more_semis<'a>(
+    alloc: Global,
+    script: &[u8],
+    strict: bool,
+    lexemes: &'a [Lexeme],
+    parts: Items<SemiText>,
+) -> Result<(Items<SemiText>, &'a [Lexeme]), Refusal>
+    ensures { Gives result (with_front parts (more (spec.is Sort.And) (past Sort.And (spec.semi script.now strict)) lexemes.now)) }
+{
+    let mut parts = parts;
+    let mut rest = lexemes;
+    'more: while same_sort(sort_at(rest), Sort::And) {
+        let (part, left) = semi(alloc, script, strict, after(rest))?;
+        parts.push(part)?;
+        rest = left;
+    }
+    Ok((parts, rest))
+}
+
+// Whether EXISTS or NOT EXISTS comes.
+#[tactic(auto, unfolding(crate::specs::Reader::begins_semi))]
+pub fn begins_semi(lexemes: &[Lexeme]) -> bool
+    ensures { result ≡ spec.begins_semi lexemes.now }
+{
+    sees(lexemes, Sort::Exists) || (sees(lexemes, Sort::Not) && sees(after(lexemes), Sort::Exists))
+}
+
+// EXISTS or NOT EXISTS, and a sub-select in parentheses.
+#[tactic(auto, unfolding(crate::specs::Reader::semi))]
+fn semi<'a>(
+    alloc: Global,
+    script: &[u8],
+    strict: bool,
+    lexemes: &'a [Lexeme],
+) -> Result<(SemiText, &'a [Lexeme]), Refusal>
+    ensures { Gives result (spec.semi script.now strict lexemes.now) }
+{
+    if same_sort(sort_at(lexemes), Sort::Exists) {
+        let rest = expect(lexemes, Sort::Exists)?;
+        let (((name, alias), cond), rest) = sub_in_parens(alloc, script, strict, rest)?;
+        return Ok((
+            SemiText {
+                positive: true,
+                name,
+                alias,
+                cond,
+            },
+            rest,
+        ));
+    }
+    let rest = expect(lexemes, Sort::Not)?;
+    let rest = expect(rest, Sort::Exists)?;
+    let (((name, alias), cond), rest) = sub_in_parens(alloc, script, strict, rest)?;
+    Ok((
+        SemiText {
+            positive: false,
+            name,
+            alias,
+            cond,
+        },
+        rest,
+    ))
+}
+
+// A sub-select in parentheses.
+fn sub_in_parens<'a>(
+    alloc: Global,
+    script: &[u8],
+    strict: bool,
+    lexemes: &'a [Lexeme],
+) -> Result<(Sub, &'a [Lexeme]), Refusal>
+    ensures { Gives result (single (spec.sub script.now strict) lexemes.now) }
+{
+    let rest = expect(lexemes, Sort::LeftParen)?;
+    let (sub, rest) = sub(alloc, script, strict, rest)?;
+    let rest = expect(rest, Sort::RightParen)?;
+    Ok((sub, rest))
+}
+
+// A sub-select.
+#[tactic(auto, unfolding(crate::specs::Reader::sub))]
+fn sub<'a>(
+    alloc: Global,
+    script: &[u8],
+    strict: bool,
+    lexemes: &'a [Lexeme],
+) -> Result<(Sub, &'a [Lexeme]), Refusal>
+    ensures { Gives result (spec.sub script.now strict lexemes.now) }
+{
+    let rest = expect(lexemes, Sort::Select)?;
+    let rest = expect(rest, Sort::Star)?;
+    let rest = expect(rest, Sort::From)?;
+    let (table, rest) = table_name(alloc, script, rest)?;
+    if same_sort(sort_at(rest), Sort::Where) {
+        let rest = expect(rest, Sort::Where)?;
+        let (cond, rest) = condition(alloc, script, strict, rest)?;
+        return Ok(((table, Some(cond)), rest));
+    }
+    Ok(((table, None), rest))
+}
