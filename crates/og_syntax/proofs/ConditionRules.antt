@@ -12,17 +12,10 @@ use Rattle.og_syntax.specs.Rules.{Rule}
 use Rattle.og_syntax.specs.Reader.{is, expr, conj_of, cond_of, compare, relate, relation, atom_of, neg_in, cond}
 use Rattle.og_syntax.specs.Clauses.{all_of, any_of}
 use Rattle.og_syntax.specs.Grammar.{IsExpr, IsConjOf, IsCondOf, IsCompare, IsRelate, IsRelation, IsAtomOf, IsNegIn, IsCond}
+use Rattle.og_syntax.specs.Follow.{after_expr, after_conj, after_cond}
 use Rattle.og_syntax.proofs.Exact.{Exact, exact-never, exact-worded, exact-bind, exact-then, exact-after, exact-map, exact-loose, exact-any, exact-choose, exact-joined, exact-single, exact-pair}
 use Rattle.og_syntax.proofs.Loops.{IsPart, is_part, after_sort}
-use Rattle.og_syntax.proofs.ExpressionRules.{after_expr, expr_begins, exact-expr}
-
--- AND goes on with a conjunction
-abbrev pub after_conj : Sort → Bool → Bool
-after_conj a named = after_expr a named && not (is k.And a)
-
--- OR goes on with a condition
-abbrev pub after_cond : Sort → Bool → Bool
-after_cond a named = after_conj a named && not (is k.Or a)
+use Rattle.og_syntax.proofs.ExpressionRules.{expr_begins, exact-expr}
 
 abbrev pub atom_begins : Sort → Bool
 atom_begins a = is k.LeftParen a || is k.Empty a || is k.Contains a || expr_begins a

@@ -9,13 +9,11 @@ use Rattle.og_syntax.specs.Reading.{has}
 use Rattle.og_syntax.specs.Clauses.{core_of, rest_of, query_of}
 use Rattle.og_syntax.specs.Reader.{is, core, between_cores, further_core, query}
 use Rattle.og_syntax.specs.Grammar.{IsCore, IsFurtherCore, IsQuery}
+use Rattle.og_syntax.specs.Follow.{after_tables, after_core, after_query}
 use Rattle.og_syntax.proofs.Exact.{Exact, exact-worded, exact-bind, exact-then, exact-after, exact-map, exact-loose, exact-ends, exact-optional, exact-more}
 use Rattle.og_syntax.proofs.Loops.{IsPart, is_part}
-use Rattle.og_syntax.proofs.QueryRules.{after_tables, exact-items, exact-tables}
+use Rattle.og_syntax.proofs.QueryRules.{exact-items, exact-tables}
 use Rattle.og_syntax.proofs.WhereRules.{exact-wcond}
-
-abbrev pub after_core : Sort → Bool → Bool
-after_core a named = after_tables a named && not (is k.Where a)
 
 pub exact-core : (script : List ℕ) (strict live : Bool) → Exact false (is k.Select) after_core (core script strict live) (IsCore script strict live)
 unfolding core IsCore same_sort
@@ -31,9 +29,6 @@ exact-further_core script strict true =
     exact-loose (exact-then (exact-worded (between_cores true) refl) (λ op. exact-map (exact-core script strict true) (rest_of op))) refl refl
 exact-further_core script strict false =
     exact-loose (exact-then (exact-worded (between_cores false) refl) (λ op. exact-map (exact-core script strict false) (rest_of op))) refl refl
-
-abbrev pub after_query : Sort → Bool → Bool
-after_query a named = after_core a named && not (has set_op_of a)
 
 pub exact-query : (script : List ℕ) (strict live : Bool) → Exact false (is k.Select) after_query (query script strict live) (IsQuery script strict live)
 unfolding query IsQuery same_sort

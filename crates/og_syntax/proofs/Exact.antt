@@ -7,6 +7,7 @@ use Rattle.og_syntax.specs.declared.lexeme.Sort.{Sort}
 use Rattle.og_syntax.specs.declared.lexeme.Sort.TheVariants as k
 use Rattle.og_syntax.specs.declared.lexeme.Lexeme.{Lexeme}
 use Rattle.og_syntax.specs.Lexemes.{same_sort, sort_at, sees}
+use Rattle.og_syntax.specs.Follow.{ahead, anything, IsReaderOf}
 use Rattle.og_syntax.specs.Reading as reading
 use Rattle.og_syntax.specs.Reading.{Reads, Outcome, got, and_then, refuse, given, choose, choose_if, tok, one, is_there, has, word_from, worded, single, pair, more_if_from, more_if, more, joined, optional}
 use Rattle.og_syntax.specs.Rules.{Rule, Given, ◌or◌, Never, Tok, One, Worded, Many, Joined, Optional, Single, Pair}
@@ -76,13 +77,6 @@ all_so_twice F = in_all (λ a. implies (F a true) (F a true) && implies (F a fal
 pub or_none : (a b : Bool) → implies (a || (false && b)) a ≡ true
 or_none true b = refl
 or_none false b = refl
-
--- a test of the first sort, and of whether a name comes after it
-abbrev pub ahead : (Sort → Bool → Bool) → List Lexeme → Bool
-ahead follow ts = follow (sort_at ts) (sees k.Name (drop 1 ts))
-
-abbrev pub anything : Sort → Bool → Bool
-anything a named = true
 
 abbrev pub nothing : Sort → Bool
 nothing a = false
@@ -522,3 +516,11 @@ unfolding same_sort
 exact-pair E comma right =
     exact-after k.LeftParen refl
     (exact-bind E (λ x. exact-after k.Comma refl (exact-bind E (λ y. exact-after k.RightParen refl (exact-pure (x, y))) right)) comma)
+
+-- an exact reader reads what its rule relates, and nothing else
+pub exact_reader : {A : Type 0} {e : Bool} {f : Sort → Bool} {F : Sort → Bool → Bool} {p : Reads A} {P : Rule A} → Exact e f F p P → IsReaderOf F p P
+exact_reader E = record {
+  sound = E.sound;
+  complete = E.complete;
+  only = λ ts x y r s h j a b. same_got x y r s (sym (E.complete ts x r h a) ∙ E.complete ts y s j b);
+}

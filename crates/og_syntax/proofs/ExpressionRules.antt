@@ -14,13 +14,10 @@ use Rattle.og_syntax.specs.Reading.{Reads, has}
 use Rattle.og_syntax.specs.Rules.{Rule, Tok}
 use Rattle.og_syntax.specs.Reader.{is, column_of, column, calls_period, expr_in, expr}
 use Rattle.og_syntax.specs.Grammar.{IsLit, IsPeriodLit, IsColumn, IsExprIn, IsExpr}
+use Rattle.og_syntax.specs.Follow.{after_expr, anything}
 use Rattle.og_syntax.proofs.EverySort.{everywhere, every_sort}
-use Rattle.og_syntax.proofs.Exact.{Exact, anything, implies, so, not_true, both_of, same_self, shrinks, exact-never, exact-tok, exact-one, exact-worded, exact-bind, exact-then, exact-after, exact-map, exact-loose, exact-any, exact-choose, exact-choose_if, exact-optional, exact-single, exact-pair}
+use Rattle.og_syntax.proofs.Exact.{Exact, implies, so, not_true, both_of, same_self, shrinks, exact-never, exact-tok, exact-one, exact-worded, exact-bind, exact-then, exact-after, exact-map, exact-loose, exact-any, exact-choose, exact-choose_if, exact-optional, exact-single, exact-pair}
 use Rattle.og_syntax.proofs.LiteralRules.{exact-name, exact-text, exact-quoted, exact-day_lit, exact-point_lit, exact-period_lit, lit_begins, exact-lit}
-
--- a dot goes on with an expression
-abbrev pub after_expr : Sort → Bool → Bool
-after_expr a named = not (is k.Dot a)
 
 pub exact-column : (script : List ℕ) → Exact false (is k.Name) after_expr (column script) (IsColumn script)
 unfolding column IsColumn same_sort

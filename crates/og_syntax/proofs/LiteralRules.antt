@@ -17,8 +17,9 @@ use Rattle.og_syntax.specs.Spans.{spelling, content, IsNameOf, name_of, IsTextOf
 use Rattle.og_syntax.specs.TextValues.{day_of, point_of, period_of}
 use Rattle.og_syntax.specs.Reader.{is, name, quoted, text, day_lit, point_lit, period_lit, lit}
 use Rattle.og_syntax.specs.Grammar.{IsName, IsQuoted, IsText, IsDayLit, IsPointLit, IsPeriodLit, IsLit}
+use Rattle.og_syntax.specs.Follow.{anything}
 use Rattle.og_syntax.proofs.TextValues.{day_of-sound, day_of-complete, point_of-sound, point_of-complete, period_of-sound, period_of-complete}
-use Rattle.og_syntax.proofs.Exact.{Exact, anything, exact-given, exact-one, exact-then, exact-after, exact-map, exact-loose, exact-choose}
+use Rattle.og_syntax.proofs.Exact.{Exact, exact-given, exact-one, exact-then, exact-after, exact-map, exact-loose, exact-choose}
 
 name_right : (word x : List ℕ) → name_of word ≡ Some x → IsNameOf word x
 name_right word x e = go (is_word word) refl e

@@ -15,17 +15,14 @@ use Rattle.og_syntax.specs.Rules.{Rule, Tok, Past}
 use Rattle.og_syntax.specs.Clauses.{Aliased, item_of, table_of, semi_of}
 use Rattle.og_syntax.specs.Reader.{is, name, as_name, alias, fitem, item, item_list, items, goes_on, first_table, joined_table, further_table, tables, sub, semi, semis, begins_semi, and_neg}
 use Rattle.og_syntax.specs.Grammar.{IsName, IsAlias, IsFitem, IsItem, IsItemList, IsItems, IsFirstTable, IsJoinedTable, IsFurtherTable, IsTables, IsSub, IsSemi, IsSemis}
-use Rattle.og_syntax.proofs.Exact.{Exact, anything, ahead, same_self, left_of, right_of, not_true, or_left, or_right, shrinks, exact-pure, exact-tok, exact-bind, exact-then, exact-after, exact-map, exact-loose, exact-ends, exact-any, exact-choose, exact-choose_if, exact-optional, exact-joined, exact-single}
+use Rattle.og_syntax.specs.Follow.{after_expr, after_cond, after_alias, after_item, after_items, after_table, after_tables, after_sub, after_semis, ahead, anything}
+use Rattle.og_syntax.proofs.Exact.{Exact, same_self, left_of, right_of, not_true, or_left, or_right, shrinks, exact-pure, exact-tok, exact-bind, exact-then, exact-after, exact-map, exact-loose, exact-ends, exact-any, exact-choose, exact-choose_if, exact-optional, exact-joined, exact-single}
 use Rattle.og_syntax.proofs.Loops.{IsPart, is_part, after_sort}
 use Rattle.og_syntax.proofs.LiteralRules.{exact-name}
-use Rattle.og_syntax.proofs.ExpressionRules.{after_expr, expr_begins, exact-expr, two_lexemes}
-use Rattle.og_syntax.proofs.ConditionRules.{after_cond, exact-cond}
+use Rattle.og_syntax.proofs.ExpressionRules.{expr_begins, exact-expr, two_lexemes}
+use Rattle.og_syntax.proofs.ConditionRules.{exact-cond}
 
 -- ---- names of tables, and their aliases
-
--- a name is an alias, and so is a name after AS
-abbrev pub after_alias : Sort → Bool → Bool
-after_alias a named = not (is k.Name a) && not (is k.As a && named)
 
 no_alias : (ts rest : List Lexeme) → rest ≡ ts → ahead after_alias rest ≡ true → as_name ts ≡ false
 unfolding as_name sees
@@ -50,9 +47,6 @@ exact-fitem script = exact-loose (exact-bind (exact-name script) (λ x. exact-ma
 
 -- ---- items
 
-abbrev pub after_item : Sort → Bool → Bool
-after_item a named = after_expr a named && not (is k.As a)
-
 pub exact-item : (script : List ℕ) (strict : Bool) → Exact false expr_begins after_item (item script strict) (IsItem script strict)
 unfolding item IsItem same_sort
 exact-item script strict =
@@ -60,9 +54,6 @@ exact-item script strict =
     (exact-bind (exact-expr script strict)
     (λ x. exact-map (exact-ends after_item (exact-optional (is k.As) (exact-after k.As refl (exact-name script)) refl) refl) (item_of x)) refl)
     refl refl
-
-abbrev pub after_items : Sort → Bool → Bool
-after_items a named = after_item a named && not (is k.Comma a)
 
 pub exact-item_list : (script : List ℕ) (strict : Bool) → Exact false expr_begins after_items (item_list script strict) (IsItemList script strict)
 unfolding item_list IsItemList same_sort
@@ -76,9 +67,6 @@ exact-items script strict =
     refl refl
 
 -- ---- tables
-
-abbrev pub after_table : Sort → Bool → Bool
-after_table a named = after_alias a named && after_cond a named
 
 pub exact-first_table : (script : List ℕ) → Exact false (is k.Name) after_alias (first_table script) (IsFirstTable script)
 unfolding first_table IsFirstTable
@@ -96,17 +84,11 @@ exact-further_table script strict =
     (exact-choose (is k.Comma) (exact-ends after_table (exact-after k.Comma refl (exact-first_table script)) refl) (exact-ends after_table (exact-joined_table script strict) refl) refl refl)
     refl refl
 
-abbrev pub after_tables : Sort → Bool → Bool
-after_tables a named = after_table a named && not (goes_on a)
-
 pub exact-tables : (script : List ℕ) (strict : Bool) → Exact false (is k.Name) after_tables (tables script strict) (IsTables script strict)
 unfolding tables IsTables same_sort
 exact-tables script strict = exact-joined (exact-first_table script) (exact-further_table script strict) refl refl
 
 -- ---- EXISTS
-
-abbrev pub after_sub : Sort → Bool → Bool
-after_sub a named = after_table a named && not (is k.Where a)
 
 pub exact-sub : (script : List ℕ) (strict : Bool) → Exact false (is k.Select) after_sub (sub script strict) (IsSub script strict)
 unfolding sub IsSub same_sort
@@ -123,9 +105,6 @@ unfolding semi IsSemi same_sort
 exact-semi script strict =
     exact-choose (is k.Exists) (exact-after k.Exists refl (exact-map (exact-single (exact-sub script strict) refl) (semi_of true)))
     (exact-after k.Not refl (exact-after k.Exists refl (exact-map (exact-single (exact-sub script strict) refl) (semi_of false)))) refl refl
-
-abbrev pub after_semis : Sort → Bool → Bool
-after_semis a named = not (is k.And a)
 
 pub exact-semis : (script : List ℕ) (strict : Bool) → Exact false semi_begins after_semis (semis script strict) (IsSemis script strict)
 unfolding semis IsSemis same_sort

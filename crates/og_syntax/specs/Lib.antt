@@ -1,4 +1,5 @@
 pub mod Clauses
+pub mod Follow
 pub mod Grammar
 pub mod Lexemes
 pub mod Meanings

@@ -4,6 +4,7 @@
 mod conditions;
 mod expressions;
 mod items;
+mod laws;
 mod lexeme;
 mod literals;
 mod meaning;
@@ -18,6 +19,7 @@ mod wheres;
 
 pub use conditions::condition;
 pub use expressions::expression;
+pub use laws::readers_are_rules;
 pub use lexeme::{Lexeme, Sort};
 pub use literals::literal;
 pub use queries::query;
