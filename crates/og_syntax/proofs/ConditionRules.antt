@@ -1,17 +1,17 @@
 -- Each reader of conditions is its rule.
-use Rattle.std.proofs.Common.{◌≡◌, ℕ, zero, suc, Bool, true, false, not, ◌&&◌, ◌||◌, List, [], ◌∷◌, length, refl}
+use Rattle.std.proofs.Common.{ℕ, zero, suc, Bool, false, ◌||◌, List, length, refl}
 use Rattle.og_syntax.specs.declared.lexeme.Sort.{Sort}
 use Rattle.og_syntax.specs.declared.lexeme.Sort.TheVariants as k
 use Rattle.og_syntax.specs.declared.tree.ExprText.{ExprText}
 use Rattle.og_syntax.specs.declared.tree.CondText.{CondText}
 use Rattle.og_syntax.specs.declared.tree.CondText.TheVariants as c
-use Rattle.og_syntax.specs.Lexemes.{same_sort}
+use Rattle.og_syntax.specs.Lexemes.{is, same_sort}
 use Rattle.og_syntax.specs.Meanings.{comparison_of, predicate_of}
 use Rattle.og_syntax.specs.Reading.{Reads, has, past}
 use Rattle.og_syntax.specs.Rules.{Rule}
-use Rattle.og_syntax.specs.Reader.{is, expr, conj_of, cond_of, compare, relate, relation, atom_of, neg_in, cond}
+use Rattle.og_syntax.specs.Reader.{conj_of, cond_of, compare, relate, relation, atom_of, neg_in, cond}
 use Rattle.og_syntax.specs.Clauses.{all_of, any_of}
-use Rattle.og_syntax.specs.Grammar.{IsExpr, IsConjOf, IsCondOf, IsCompare, IsRelate, IsRelation, IsAtomOf, IsNegIn, IsCond}
+use Rattle.og_syntax.specs.Grammar.{IsConjOf, IsCondOf, IsCompare, IsRelate, IsRelation, IsAtomOf, IsNegIn, IsCond}
 use Rattle.og_syntax.specs.Follow.{after_expr, after_conj, after_cond}
 use Rattle.og_syntax.proofs.Exact.{Exact, exact-never, exact-worded, exact-bind, exact-then, exact-after, exact-map, exact-loose, exact-any, exact-choose, exact-joined, exact-single, exact-pair}
 use Rattle.og_syntax.proofs.Loops.{IsPart, is_part, after_sort}

@@ -1,15 +1,13 @@
 -- Each reader of cores and of queries is its rule.
-use Rattle.std.proofs.Common.{◌≡◌, ℕ, Bool, true, false, not, ◌&&◌, ◌||◌, List, Option, Some, None, refl, sym, ap, ◌∙◌}
-use Rattle.og_syntax.specs.declared.lexeme.Sort.{Sort}
+use Rattle.std.proofs.Common.{ℕ, Bool, true, false, List, refl}
 use Rattle.og_syntax.specs.declared.lexeme.Sort.TheVariants as k
-use Rattle.og_syntax.specs.declared.lexeme.Lexeme.{Lexeme}
-use Rattle.og_syntax.specs.Lexemes.{same_sort, sort_at}
-use Rattle.og_syntax.specs.Meanings.{set_op_of, union_of}
+use Rattle.og_syntax.specs.Lexemes.{is, same_sort, sort_at}
+use Rattle.og_syntax.specs.Meanings.{between_cores}
 use Rattle.og_syntax.specs.Reading.{has}
 use Rattle.og_syntax.specs.Clauses.{core_of, rest_of, query_of}
-use Rattle.og_syntax.specs.Reader.{is, core, between_cores, further_core, query}
+use Rattle.og_syntax.specs.Reader.{core, further_core, query}
 use Rattle.og_syntax.specs.Grammar.{IsCore, IsFurtherCore, IsQuery}
-use Rattle.og_syntax.specs.Follow.{after_tables, after_core, after_query}
+use Rattle.og_syntax.specs.Follow.{after_core, after_query}
 use Rattle.og_syntax.proofs.Exact.{Exact, exact-worded, exact-bind, exact-then, exact-after, exact-map, exact-loose, exact-ends, exact-optional, exact-more}
 use Rattle.og_syntax.proofs.Loops.{IsPart, is_part}
 use Rattle.og_syntax.proofs.QueryRules.{exact-items, exact-tables}

@@ -1,23 +1,23 @@
 -- Each reader of expressions is its rule.
-use Rattle.std.proofs.Common.{◌≡◌, ◌⊎◌, inl, inr, ℕ, zero, suc, Bool, true, false, not, ◌&&◌, ◌||◌, List, [], ◌∷◌, Option, Some, None, length, drop, refl, sym, ap, ◌∙◌, subst}
+use Rattle.std.proofs.Common.{◌≡◌, inl, inr, ℕ, zero, suc, Bool, true, false, not, ◌&&◌, ◌||◌, List, [], ◌∷◌, length, drop, refl, ap, ◌∙◌}
 use Rattle.og_value.specs.declared.value.Value.{Value}
 use Rattle.og_value.specs.declared.value.Value.TheVariants as v
 use Rattle.og_value.specs.declared.term.Func.TheVariants as func
+use Rattle.og_syntax.specs.Clauses.{column_of}
 use Rattle.og_syntax.specs.declared.lexeme.Sort.{Sort}
 use Rattle.og_syntax.specs.declared.lexeme.Sort.TheVariants as k
 use Rattle.og_syntax.specs.declared.lexeme.Lexeme.{Lexeme}
-use Rattle.og_syntax.specs.declared.tree.ExprText.{ExprText}
 use Rattle.og_syntax.specs.declared.tree.ExprText.TheVariants as e
-use Rattle.og_syntax.specs.Lexemes.{same_sort, sort_at, sees}
+use Rattle.og_syntax.specs.Lexemes.{is, same_sort, sort_at, sees}
 use Rattle.og_syntax.specs.Meanings.{func_of_two, func_of_one}
 use Rattle.og_syntax.specs.Reading.{Reads, has}
 use Rattle.og_syntax.specs.Rules.{Rule, Tok}
-use Rattle.og_syntax.specs.Reader.{is, column_of, column, calls_period, expr_in, expr}
+use Rattle.og_syntax.specs.Reader.{column, calls_period, expr_in, expr}
 use Rattle.og_syntax.specs.Grammar.{IsLit, IsPeriodLit, IsColumn, IsExprIn, IsExpr}
-use Rattle.og_syntax.specs.Follow.{after_expr, anything}
+use Rattle.og_syntax.specs.Follow.{after_expr}
 use Rattle.og_syntax.proofs.EverySort.{everywhere, every_sort}
-use Rattle.og_syntax.proofs.Exact.{Exact, implies, so, not_true, both_of, same_self, shrinks, exact-never, exact-tok, exact-one, exact-worded, exact-bind, exact-then, exact-after, exact-map, exact-loose, exact-any, exact-choose, exact-choose_if, exact-optional, exact-single, exact-pair}
-use Rattle.og_syntax.proofs.LiteralRules.{exact-name, exact-text, exact-quoted, exact-day_lit, exact-point_lit, exact-period_lit, lit_begins, exact-lit}
+use Rattle.og_syntax.proofs.Exact.{Exact, implies, so, not_true, both_of, same_self, shrinks, exact-never, exact-one, exact-worded, exact-bind, exact-then, exact-after, exact-map, exact-loose, exact-any, exact-choose, exact-choose_if, exact-optional, exact-single, exact-pair}
+use Rattle.og_syntax.proofs.LiteralRules.{exact-name, exact-text, exact-quoted, exact-day_lit, exact-point_lit, lit_begins, exact-lit}
 
 pub exact-column : (script : List ℕ) → Exact false (is k.Name) after_expr (column script) (IsColumn script)
 unfolding column IsColumn same_sort

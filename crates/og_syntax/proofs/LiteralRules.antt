@@ -1,5 +1,5 @@
 -- Each reader of names, texts and literals is its rule.
-use Rattle.std.proofs.Common.{◌≡◌, ◌⊎◌, inl, inr, ◌||◌, ℕ, ℤ, Bool, true, false, List, Option, Some, None, if◌then◌else◌, refl, sym, ap, ◌∙◌, IsUtf8}
+use Rattle.std.proofs.Common.{◌≡◌, ◌||◌, ℕ, ℤ, Bool, true, false, List, Option, Some, None, if◌then◌else◌, refl, sym, ap, ◌∙◌, IsUtf8}
 use Rattle.std.specs.Str.{is_utf8}
 use Rattle.std.proofs.lemmas.Str.{IsUtf8-from_is_utf8, is_utf8-from_IsUtf8}
 use Rattle.std.proofs.lemmas.Option.{same_Some}
@@ -11,11 +11,11 @@ use Rattle.og_value.specs.declared.value.Value.TheVariants as v
 use Rattle.og_syntax.specs.declared.lexeme.Sort.{Sort}
 use Rattle.og_syntax.specs.declared.lexeme.Sort.TheVariants as k
 use Rattle.og_syntax.specs.declared.lexeme.Lexeme.{Lexeme}
-use Rattle.og_syntax.specs.Lexemes.{same_sort}
+use Rattle.og_syntax.specs.Lexemes.{is, same_sort}
 use Rattle.og_syntax.specs.Reading.{got, and_then, given}
 use Rattle.og_syntax.specs.Spans.{spelling, content, IsNameOf, name_of, IsTextOf, text_of, IsDayValue, day_value_from, IsPointValue, point_value_from, IsPeriodValue, period_value_from, IsOfForm, of_form}
 use Rattle.og_syntax.specs.TextValues.{day_of, point_of, period_of}
-use Rattle.og_syntax.specs.Reader.{is, name, quoted, text, day_lit, point_lit, period_lit, lit}
+use Rattle.og_syntax.specs.Reader.{name, quoted, text, day_lit, point_lit, period_lit, lit}
 use Rattle.og_syntax.specs.Grammar.{IsName, IsQuoted, IsText, IsDayLit, IsPointLit, IsPeriodLit, IsLit}
 use Rattle.og_syntax.specs.Follow.{anything}
 use Rattle.og_syntax.proofs.TextValues.{day_of-sound, day_of-complete, point_of-sound, point_of-complete, period_of-sound, period_of-complete}

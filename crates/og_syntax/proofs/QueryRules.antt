@@ -1,22 +1,17 @@
 -- Each reader of the parts of a query is its rule.
-use Rattle.std.proofs.Common.{◌≡◌, ◌⊎◌, inl, inr, ℕ, zero, suc, ◌<◌, Bool, true, false, not, ◌&&◌, ◌||◌, List, [], ◌∷◌, Option, Some, None, length, drop, refl, sym, ap, ◌∙◌, subst}
+use Rattle.std.proofs.Common.{◌≡◌, inl, inr, ℕ, Bool, true, false, not, ◌&&◌, ◌||◌, List, Some, None, drop, refl, ap, ◌∙◌, subst}
 use Rattle.og_syntax.specs.declared.lexeme.Sort.{Sort}
 use Rattle.og_syntax.specs.declared.lexeme.Sort.TheVariants as k
 use Rattle.og_syntax.specs.declared.lexeme.Lexeme.{Lexeme}
-use Rattle.og_syntax.specs.declared.tree.CondText.{CondText}
-use Rattle.og_syntax.specs.declared.tree.ItemText.{ItemText}
-use Rattle.og_syntax.specs.declared.tree.ItemsText.{ItemsText}
 use Rattle.og_syntax.specs.declared.tree.ItemsText.TheVariants as i
-use Rattle.og_syntax.specs.declared.tree.FromText.{FromText}
 use Rattle.og_syntax.specs.declared.tree.SemiText.{SemiText}
-use Rattle.og_syntax.specs.Lexemes.{same_sort, sort_at, sees}
-use Rattle.og_syntax.specs.Reading.{Reads, has, past}
-use Rattle.og_syntax.specs.Rules.{Rule, Tok, Past}
-use Rattle.og_syntax.specs.Clauses.{Aliased, item_of, table_of, semi_of}
-use Rattle.og_syntax.specs.Reader.{is, name, as_name, alias, fitem, item, item_list, items, goes_on, first_table, joined_table, further_table, tables, sub, semi, semis, begins_semi, and_neg}
-use Rattle.og_syntax.specs.Grammar.{IsName, IsAlias, IsFitem, IsItem, IsItemList, IsItems, IsFirstTable, IsJoinedTable, IsFurtherTable, IsTables, IsSub, IsSemi, IsSemis}
-use Rattle.og_syntax.specs.Follow.{after_expr, after_cond, after_alias, after_item, after_items, after_table, after_tables, after_sub, after_semis, ahead, anything}
-use Rattle.og_syntax.proofs.Exact.{Exact, same_self, left_of, right_of, not_true, or_left, or_right, shrinks, exact-pure, exact-tok, exact-bind, exact-then, exact-after, exact-map, exact-loose, exact-ends, exact-any, exact-choose, exact-choose_if, exact-optional, exact-joined, exact-single}
+use Rattle.og_syntax.specs.Lexemes.{is, same_sort, sort_at, sees}
+use Rattle.og_syntax.specs.Reading.{past}
+use Rattle.og_syntax.specs.Clauses.{item_of, table_of, semi_of}
+use Rattle.og_syntax.specs.Reader.{as_name, alias, fitem, item, item_list, items, goes_on, first_table, joined_table, further_table, tables, sub, semi, semis, begins_semi}
+use Rattle.og_syntax.specs.Grammar.{IsAlias, IsFitem, IsItem, IsItemList, IsItems, IsFirstTable, IsJoinedTable, IsFurtherTable, IsTables, IsSub, IsSemi, IsSemis}
+use Rattle.og_syntax.specs.Follow.{after_cond, after_alias, after_item, after_items, after_table, after_tables, after_sub, after_semis, ahead, anything}
+use Rattle.og_syntax.proofs.Exact.{Exact, same_self, right_of, not_true, or_left, or_right, shrinks, exact-pure, exact-tok, exact-bind, exact-after, exact-map, exact-loose, exact-ends, exact-any, exact-choose, exact-choose_if, exact-optional, exact-joined, exact-single}
 use Rattle.og_syntax.proofs.Loops.{IsPart, is_part, after_sort}
 use Rattle.og_syntax.proofs.LiteralRules.{exact-name}
 use Rattle.og_syntax.proofs.ExpressionRules.{expr_begins, exact-expr, two_lexemes}

@@ -1,11 +1,11 @@
 -- What is found among all days, points and periods is what the text is of.
-use Rattle.std.proofs.Common.{◌≡◌, ◌⊎◌, inl, inr, ◌≤ℤ◌, ◌<ℤ◌, ◌+ℤ◌, ℕ, zero, suc, ℤ, pos, Bool, true, false, List, Option, Some, None, Result, Ok, Err, IfOk, OnErr, int_le, if◌then◌else◌, refl, sym, ap, ◌∙◌, subst, arith}
+use Rattle.std.proofs.Common.{◌≡◌, inl, inr, ◌≤ℤ◌, ◌<ℤ◌, ◌+ℤ◌, ℕ, zero, suc, ℤ, pos, Bool, true, false, List, Option, Some, None, Result, Ok, Err, IfOk, OnErr, int_le, if◌then◌else◌, refl, sym, ap, ◌∙◌, subst, arith}
 use Rattle.std.specs.Result.{result_ok}
 use Rattle.std.proofs.lemmas.Int.{ints}
 use Rattle.std.proofs.lemmas.Option.{same_Some}
 use Rattle.std.proofs.lemmas.Slice.Eq.{bytes_eq-Decides}
 use Rattle.std.specs.Str.{bytes_eq}
-use Rattle.og_base.specs.Calendar.{IsExtDay, IsDayText, before_all, after_all, day_text}
+use Rattle.og_base.specs.Calendar.{IsExtDay, IsDayText, before_all, day_text}
 use Rattle.og_base.proofs.DayTexts.{civil_in_range, text_is, day_text_is}
 use Rattle.og_time.specs.Point.{Point, IsPoint, IsPointText, point_text}
 use Rattle.og_time.specs.Period.{Period, IsPeriod, IsPeriodText, period_text}

@@ -1,22 +1,20 @@
 -- The reader of what stands after WHERE is its rule.
-use Rattle.std.proofs.Common.{◌≡◌, ◌⊎◌, inl, inr, ℕ, zero, suc, ◌<◌, Bool, true, false, not, ◌&&◌, ◌||◌, if◌then◌else◌, List, [], ◌∷◌, Option, Some, None, length, drop, refl, sym, ap, ◌∙◌, subst, le_refl}
+use Rattle.std.proofs.Common.{◌≡◌, ◌⊎◌, inl, inr, ℕ, zero, suc, ◌<◌, Bool, true, false, not, ◌&&◌, ◌||◌, if◌then◌else◌, List, [], ◌∷◌, Some, None, length, drop, refl, sym, ap, ◌∙◌, subst, le_refl}
 use Rattle.og_syntax.specs.declared.lexeme.Sort.{Sort}
 use Rattle.og_syntax.specs.declared.lexeme.Sort.TheVariants as k
 use Rattle.og_syntax.specs.declared.lexeme.Lexeme.{Lexeme}
 use Rattle.og_syntax.specs.declared.tree.CondText.{CondText}
 use Rattle.og_syntax.specs.declared.tree.CondText.TheVariants as c
-use Rattle.og_syntax.specs.declared.tree.SemiText.{SemiText}
-use Rattle.og_syntax.specs.Lexemes.{same_sort, sort_at, sees}
+use Rattle.og_syntax.specs.Lexemes.{is, same_sort, sort_at, sees}
 use Rattle.og_syntax.specs.Reading as reading
 use Rattle.og_syntax.specs.Reading.{Reads, got, and_then, past, more_if, more_if_from, joined_if}
 use Rattle.og_syntax.specs.Rules as rules_
 use Rattle.og_syntax.specs.Rules.{Rule, Tok, Past, Many, Joined, ◌or◌}
 use Rattle.og_syntax.specs.Clauses.{all_of, any_of, Where, before_semis}
-use Rattle.og_syntax.specs.Reader.{is, conj_of, cond, relation, atom_of, neg_in, semis, begins_semi, and_neg, where_end, wcond_of, wcond}
-use Rattle.og_syntax.specs.Grammar.{IsConjOf, IsCondOf, IsCond, IsAtomOf, IsNegIn, IsSemis, IsWcondOf, IsWcond}
+use Rattle.og_syntax.specs.Reader.{neg_in, semis, begins_semi, and_neg, where_end, wcond_of, wcond}
+use Rattle.og_syntax.specs.Grammar.{IsConjOf, IsCondOf, IsNegIn, IsSemis, IsWcondOf, IsWcond}
 use Rattle.og_syntax.specs.Follow.{after_expr, after_conj, after_cond, ahead, anything}
-use Rattle.og_syntax.proofs.EverySort.{everywhere, every_sort}
-use Rattle.og_syntax.proofs.Exact.{Exact, implies, so, not_true, not_false, both_of, left_of, right_of, or_left, or_right, same_self, got_same, shrinks, bind_sound, bind_lead, if_sound, more_sound, more_complete, many_ahead, exact-pure, exact-tok, exact-bind, exact-after, exact-map, exact-loose, exact-ends, exact-any, exact-choose, exact-more}
+use Rattle.og_syntax.proofs.Exact.{Exact, not_true, not_false, both_of, left_of, right_of, or_left, same_self, got_same, shrinks, bind_sound, bind_lead, if_sound, more_sound, more_complete, many_ahead, exact-pure, exact-tok, exact-bind, exact-after, exact-map, exact-loose, exact-ends, exact-choose, exact-more}
 use Rattle.og_syntax.proofs.Loops.{IsPart, is_part}
 use Rattle.og_syntax.proofs.ExpressionRules.{apart_from, other_first, other_second}
 use Rattle.og_syntax.proofs.ConditionRules.{atom_begins, neg_begins, exact-conj_of, exact-cond_of, exact-atom_of, exact-neg_in, exact-cond}

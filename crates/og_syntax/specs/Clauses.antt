@@ -2,6 +2,7 @@
 use Rattle.std.specs.Prelude.{ℕ, Bool, List, [], ◌∷◌, Option, Some, None}
 use Rattle.og_value.specs.declared.term.SetOp.{SetOp}
 use Rattle.og_syntax.specs.declared.tree.ExprText.{ExprText}
+use Rattle.og_syntax.specs.declared.tree.ExprText.TheVariants as e
 use Rattle.og_syntax.specs.declared.tree.CondText.{CondText}
 use Rattle.og_syntax.specs.declared.tree.CondText.TheVariants as c
 use Rattle.og_syntax.specs.declared.tree.ItemText.{ItemText}
@@ -53,3 +54,7 @@ rest_of op core = record { op = op; core = core }
 
 abbrev pub query_of : CoreText → List RestText → QueryText
 query_of first rest = record { first = first; rest = rest }
+
+abbrev pub column_of : List ℕ → Option (List ℕ) → ExprText
+column_of x (Some y) = e.Column (Some x) y
+column_of x None = e.Column None x

@@ -3,11 +3,11 @@ use Rattle.std.specs.Prelude.{◌≡◌, Bool, true, not, ◌&&◌, List, drop}
 use Rattle.og_syntax.specs.declared.lexeme.Sort.{Sort}
 use Rattle.og_syntax.specs.declared.lexeme.Sort.TheVariants as k
 use Rattle.og_syntax.specs.declared.lexeme.Lexeme.{Lexeme}
-use Rattle.og_syntax.specs.Lexemes.{sort_at, sees}
+use Rattle.og_syntax.specs.Lexemes.{is, sort_at, sees}
 use Rattle.og_syntax.specs.Meanings.{set_op_of}
 use Rattle.og_syntax.specs.Reading.{Reads, got, has}
 use Rattle.og_syntax.specs.Rules.{Rule}
-use Rattle.og_syntax.specs.Reader.{is, goes_on}
+use Rattle.og_syntax.specs.Reader.{goes_on}
 
 -- a test of the lexemes that come
 abbrev pub ahead : (Sort → Bool → Bool) → List Lexeme → Bool

@@ -16,11 +16,10 @@ use Rattle.og_syntax.specs.declared.tree.SemiText.{SemiText}
 use Rattle.og_syntax.specs.declared.tree.CoreText.{CoreText}
 use Rattle.og_syntax.specs.declared.tree.RestText.{RestText}
 use Rattle.og_syntax.specs.declared.tree.QueryText.{QueryText}
-use Rattle.og_syntax.specs.Meanings.{func_of_two, func_of_one, comparison_of, predicate_of}
+use Rattle.og_syntax.specs.Meanings.{between_cores, func_of_two, func_of_one, comparison_of, predicate_of}
 use Rattle.og_syntax.specs.Rules.{Rule, ◌>>=◌, ◌>>◌, ◌or◌, pure, Given, Never, Tok, One, Worded, Many, Joined, Optional, Past, Single, Pair}
 use Rattle.og_syntax.specs.Spans.{spelling, content, IsNameOf, IsTextOf, IsOfForm, IsDayValue, IsPointValue, IsPeriodValue}
-use Rattle.og_syntax.specs.Reader.{column_of, between_cores}
-use Rattle.og_syntax.specs.Clauses.{all_of, any_of, Aliased, item_of, table_of, semi_of, Where, before_semis, core_of, rest_of, query_of}
+use Rattle.og_syntax.specs.Clauses.{column_of, all_of, any_of, Aliased, item_of, table_of, semi_of, Where, before_semis, core_of, rest_of, query_of}
 
 -- ---- names, texts and literals
 

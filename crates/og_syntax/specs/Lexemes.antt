@@ -1,5 +1,5 @@
 -- What stands at the front of a list of lexemes.
-use Rattle.std.specs.Prelude.{ℕ, Bool, not, List, [], ◌∷◌}
+use Rattle.std.specs.Prelude.{Bool, not, List, [], ◌∷◌}
 use denote.Enum.Bare.{sameb}
 use Rattle.og_syntax.specs.contracts.lexeme.Sort.{the_type}
 use Rattle.og_syntax.specs.declared.lexeme.Sort.{Sort}
@@ -22,3 +22,6 @@ sees sort ts = same_sort (sort_at ts) sort
 -- no lexeme of those sorts comes first
 abbrev pub lacks : (Sort → Bool) → List Lexeme → Bool
 lacks h ts = not (h (sort_at ts))
+
+abbrev pub is : Sort → Sort → Bool
+is sort a = same_sort a sort

@@ -1,5 +1,5 @@
 -- The words and symbols that have a meaning of their own.
-use Rattle.std.specs.Prelude.{Option, Some, None}
+use Rattle.std.specs.Prelude.{Bool, true, false, Option, Some, None}
 use Rattle.og_value.specs.declared.term.Func.{Func}
 use Rattle.og_value.specs.declared.term.Func.TheVariants as func
 use Rattle.og_value.specs.declared.term.Cmp.{Cmp}
@@ -52,3 +52,8 @@ set_op_of _ = None
 abbrev pub union_of : Sort → Option SetOp
 union_of k.Union = Some op.Union
 union_of _ = None
+
+-- the operators between the cores of a query, and of a live query
+abbrev pub between_cores : Bool → Sort → Option SetOp
+between_cores true a = union_of a
+between_cores false a = set_op_of a

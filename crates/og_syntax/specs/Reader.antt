@@ -3,7 +3,6 @@ use Rattle.std.specs.Prelude.{ℕ, zero, suc, Bool, List, [], ◌∷◌, Option,
 use Rattle.og_value.specs.declared.value.Value.{Value}
 use Rattle.og_value.specs.declared.value.Value.TheVariants as v
 use Rattle.og_value.specs.declared.term.Func.TheVariants as func
-use Rattle.og_value.specs.declared.term.SetOp.{SetOp}
 use Rattle.og_syntax.specs.declared.lexeme.Sort.{Sort}
 use Rattle.og_syntax.specs.declared.lexeme.Sort.TheVariants as k
 use Rattle.og_syntax.specs.declared.lexeme.Lexeme.{Lexeme}
@@ -19,15 +18,12 @@ use Rattle.og_syntax.specs.declared.tree.SemiText.{SemiText}
 use Rattle.og_syntax.specs.declared.tree.CoreText.{CoreText}
 use Rattle.og_syntax.specs.declared.tree.RestText.{RestText}
 use Rattle.og_syntax.specs.declared.tree.QueryText.{QueryText}
-use Rattle.og_syntax.specs.Clauses.{all_of, any_of, Aliased, item_of, table_of, semi_of, Where, core_of, rest_of, query_of}
-use Rattle.og_syntax.specs.Lexemes.{same_sort, sort_at, sees}
-use Rattle.og_syntax.specs.Meanings.{func_of_two, func_of_one, comparison_of, predicate_of, set_op_of, union_of}
-use Rattle.og_syntax.specs.Reading.{Reads, ◌>>=◌, ◌>>◌, pure, refuse, given, choose, choose_if, tok, one, has, worded, more_if, more, joined, joined_if, optional, past, single, pair}
+use Rattle.og_syntax.specs.Clauses.{column_of, all_of, any_of, Aliased, item_of, table_of, semi_of, Where, core_of, rest_of, query_of}
+use Rattle.og_syntax.specs.Lexemes.{is, sees}
+use Rattle.og_syntax.specs.Meanings.{between_cores, func_of_two, func_of_one, comparison_of, predicate_of}
+use Rattle.og_syntax.specs.Reading.{Reads, ◌>>=◌, ◌>>◌, pure, refuse, given, choose, choose_if, tok, one, has, worded, more, joined, joined_if, optional, past, single, pair}
 use Rattle.og_syntax.specs.Spans.{spelling, content, name_of, text_of, day_value_from, point_value_from, period_value_from, of_form}
 use Rattle.og_syntax.specs.TextValues.{day_of, point_of, period_of}
-
-abbrev pub is : Sort → Sort → Bool
-is sort a = same_sort a sort
 
 -- ---- names, texts and literals
 
@@ -59,10 +55,6 @@ lit script strict =
     (period_lit script strict))))
 
 -- ---- expressions
-
-abbrev pub column_of : List ℕ → Option (List ℕ) → ExprText
-column_of x (Some y) = e.Column (Some x) y
-column_of x None = e.Column None x
 
 unfoldable pub column : List ℕ → Reads ExprText
 column script = do x ← name script; y ← optional (is k.Dot) (do tok k.Dot; name script); pure (column_of x y)
@@ -207,11 +199,6 @@ core script strict live = do
   ts ← tables script strict
   w ← optional (is k.Where) (past k.Where (wcond script strict live))
   pure (core_of xs ts w)
-
--- the operators between the cores of a query, and of a live query
-abbrev pub between_cores : Bool → Sort → Option SetOp
-between_cores true a = union_of a
-between_cores false a = set_op_of a
 
 unfoldable pub further_core : List ℕ → Bool → Bool → Reads RestText
 further_core script strict live = do op ← worded (between_cores live); x ← core script strict live; pure (rest_of op x)

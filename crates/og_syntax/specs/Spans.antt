@@ -8,7 +8,6 @@ use Rattle.og_value.specs.Words.{is_word, folded}
 use Rattle.og_value.specs.declared.value.Value.{Value}
 use Rattle.og_value.specs.declared.value.Value.TheVariants as v
 use Rattle.og_syntax.specs.declared.lexeme.Lexeme.{Lexeme}
-use Rattle.og_syntax.specs.TextValues.{day_of, point_of, period_of}
 
 -- the bytes of a lexeme
 unfoldable pub spelling : List ℕ → Lexeme → List ℕ

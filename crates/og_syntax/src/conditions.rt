@@ -1,5 +1,6 @@
 //! Conditions.
 ghost use Rattle.std.specs.Prelude.{◌≡◌, ◌∷◌, []};
+ghost use Rattle.og_syntax.specs.Lexemes.{is};
 ghost use Rattle.og_syntax.specs.Reading.{Gives, past, more, with_front, single, pair};
 ghost use Rattle.og_syntax.specs.Clauses as clauses;
 ghost use Rattle.og_syntax.specs.Reader as spec;
@@ -56,7 +57,7 @@ pub fn more_conjunctions_in<'a>(
     depth: usize,
     parts: Items<CondText>,
 ) -> Result<(Items<CondText>, &'a [Lexeme]), Refusal>
-    ensures { Gives result (with_front parts (more (spec.is Sort.Or) (past Sort.Or (spec.conj_of (spec.neg_in script.now strict depth))) lexemes.now)) }
+    ensures { Gives result (with_front parts (more (is Sort.Or) (past Sort.Or (spec.conj_of (spec.neg_in script.now strict depth))) lexemes.now)) }
 {
     let mut parts = parts;
     let mut rest = lexemes;
@@ -97,7 +98,7 @@ fn more_negations_in<'a>(
     depth: usize,
     parts: Items<CondText>,
 ) -> Result<(Items<CondText>, &'a [Lexeme]), Refusal>
-    ensures { Gives result (with_front parts (more (spec.is Sort.And) (past Sort.And (spec.neg_in script.now strict depth)) lexemes.now)) }
+    ensures { Gives result (with_front parts (more (is Sort.And) (past Sort.And (spec.neg_in script.now strict depth)) lexemes.now)) }
 {
     let mut parts = parts;
     let mut rest = lexemes;

@@ -1,6 +1,7 @@
 //! What a SELECT gives.
 ghost use Rattle.std.specs.Prelude.{◌≡◌, ◌∷◌, [], None, Some};
 ghost use Rattle.og_syntax.specs.declared.lexeme.Sort.{Sort};
+ghost use Rattle.og_syntax.specs.Lexemes.{is};
 ghost use Rattle.og_syntax.specs.Reading.{Gives, past, more, with_front};
 ghost use Rattle.og_syntax.specs.Reader as spec;
 
@@ -42,7 +43,7 @@ fn more_items<'a>(
     lexemes: &'a [Lexeme],
     parts: Items<ItemText>,
 ) -> Result<(Items<ItemText>, &'a [Lexeme]), Refusal>
-    ensures { Gives result (with_front parts (more (spec.is Sort.Comma) (past Sort.Comma (spec.item script.now strict)) lexemes.now)) }
+    ensures { Gives result (with_front parts (more (is Sort.Comma) (past Sort.Comma (spec.item script.now strict)) lexemes.now)) }
 {
     let mut parts = parts;
     let mut rest = lexemes;

@@ -1,6 +1,7 @@
 //! Queries.
 ghost use Rattle.std.specs.Prelude.{◌≡◌, ◌∷◌, [], None, Some};
 ghost use Rattle.og_syntax.specs.Lexemes.{sort_at};
+ghost use Rattle.og_syntax.specs.Meanings.{between_cores};
 ghost use Rattle.og_syntax.specs.Reading.{Gives, has, more, with_front};
 ghost use Rattle.og_syntax.specs.Reader as spec;
 
@@ -48,7 +49,7 @@ fn more_cores<'a>(
     lexemes: &'a [Lexeme],
     parts: Items<RestText>,
 ) -> Result<(Items<RestText>, &'a [Lexeme]), Refusal>
-    ensures { Gives result (with_front parts (more (has (spec.between_cores live)) (spec.further_core script.now strict live) lexemes.now)) }
+    ensures { Gives result (with_front parts (more (has (between_cores live)) (spec.further_core script.now strict live) lexemes.now)) }
 {
     let mut parts = parts;
     let mut rest = lexemes;
@@ -62,14 +63,14 @@ fn more_cores<'a>(
 
 // Whether an operator between cores comes.
 fn goes_on(live: bool, lexemes: &[Lexeme]) -> bool
-    ensures { result ≡ has (spec.between_cores live) (sort_at lexemes.now) }
+    ensures { result ≡ has (between_cores live) (sort_at lexemes.now) }
 {
     between_cores(live, sort_at(lexemes)).is_some()
 }
 
 // The operator between two cores.
 fn between_cores(live: bool, sort: Sort) -> Option<SetOp>
-    ensures { result ≡ spec.between_cores live sort }
+    ensures { result ≡ between_cores live sort }
 {
     if live {
         union_of(sort)

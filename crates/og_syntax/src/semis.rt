@@ -1,7 +1,7 @@
 //! Conditions of EXISTS and NOT EXISTS.
 ghost use Rattle.std.specs.Prelude.{◌≡◌, ◌&&◌, ◌||◌, ◌∷◌, [], drop, None, Some, true, false};
 ghost use Rattle.og_syntax.specs.declared.lexeme.Sort.{Sort};
-ghost use Rattle.og_syntax.specs.Lexemes.{sees};
+ghost use Rattle.og_syntax.specs.Lexemes.{is, sees};
 ghost use Rattle.og_syntax.specs.Reading.{Gives, past, more, single, with_front};
 ghost use Rattle.og_syntax.specs.Reader as spec;
 
@@ -42,7 +42,7 @@ fn more_semis<'a>(
     lexemes: &'a [Lexeme],
     parts: Items<SemiText>,
 ) -> Result<(Items<SemiText>, &'a [Lexeme]), Refusal>
-    ensures { Gives result (with_front parts (more (spec.is Sort.And) (past Sort.And (spec.semi script.now strict)) lexemes.now)) }
+    ensures { Gives result (with_front parts (more (is Sort.And) (past Sort.And (spec.semi script.now strict)) lexemes.now)) }
 {
     let mut parts = parts;
     let mut rest = lexemes;

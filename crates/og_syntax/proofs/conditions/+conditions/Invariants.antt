@@ -1,7 +1,8 @@
 use Rattle.std.proofs.Common.{◌≡◌, ◌+◌, ◌*◌, length}
+use Rattle.og_syntax.specs.Lexemes.{is}
 use Rattle.og_syntax.specs.declared.lexeme.Sort.TheVariants as k
 use Rattle.og_syntax.specs.Reading.{past, more, with_front}
-use Rattle.og_syntax.specs.Reader.{is, neg_in, conj_of}
+use Rattle.og_syntax.specs.Reader.{neg_in, conj_of}
 use Rattle.og_syntax.proofs.conditions.+conditions.Given as goal
 
 abbrev pub decreases-negation_in : goal.decreases-negation_in

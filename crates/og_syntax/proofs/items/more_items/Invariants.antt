@@ -1,7 +1,8 @@
 use Rattle.std.proofs.Common.{◌≡◌, length}
+use Rattle.og_syntax.specs.Lexemes.{is}
 use Rattle.og_syntax.specs.declared.lexeme.Sort.TheVariants as k
 use Rattle.og_syntax.specs.Reading.{past, more, with_front}
-use Rattle.og_syntax.specs.Reader.{is, item}
+use Rattle.og_syntax.specs.Reader.{item}
 use Rattle.og_syntax.proofs.items.more_items.Given as goal
 
 abbrev pub invariant-more : goal.invariant-more

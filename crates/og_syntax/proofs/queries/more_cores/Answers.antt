@@ -1,10 +1,11 @@
 use Rattle.std.proofs.Common.{rules}
 use Rattle.std.proofs.lemmas.Result.{err_from_is_err_and}
+use Rattle.og_syntax.specs.Meanings.{between_cores}
 use Rattle.og_syntax.specs.Lexemes.{sort_at}
 use Rattle.og_syntax.specs.Reading.{has}
-use Rattle.og_syntax.specs.Reader.{between_cores, further_core}
+use Rattle.og_syntax.specs.Reader.{further_core}
 use Rattle.og_syntax.proofs.CoreRules.{core_part}
-use Rattle.og_syntax.proofs.Loops.{IsPart, one_more, all_read, not_read}
+use Rattle.og_syntax.proofs.Loops.{one_more, all_read, not_read}
 use Rattle.og_syntax.proofs.queries.more_cores.Goals as goal
 
 pub more-smaller : goal.more-smaller

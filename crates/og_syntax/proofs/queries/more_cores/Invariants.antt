@@ -1,6 +1,7 @@
 use Rattle.std.proofs.Common.{◌≡◌, length}
+use Rattle.og_syntax.specs.Meanings.{between_cores}
 use Rattle.og_syntax.specs.Reading.{has, more, with_front}
-use Rattle.og_syntax.specs.Reader.{between_cores, further_core}
+use Rattle.og_syntax.specs.Reader.{further_core}
 use Rattle.og_syntax.proofs.queries.more_cores.Given as goal
 
 abbrev pub invariant-more : goal.invariant-more

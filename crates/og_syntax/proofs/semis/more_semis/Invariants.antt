@@ -1,7 +1,8 @@
 use Rattle.std.proofs.Common.{◌≡◌, length}
+use Rattle.og_syntax.specs.Lexemes.{is}
 use Rattle.og_syntax.specs.declared.lexeme.Sort.TheVariants as k
 use Rattle.og_syntax.specs.Reading.{past, more, with_front}
-use Rattle.og_syntax.specs.Reader.{is, semi}
+use Rattle.og_syntax.specs.Reader.{semi}
 use Rattle.og_syntax.proofs.semis.more_semis.Given as goal
 
 abbrev pub invariant-more : goal.invariant-more

@@ -3,7 +3,7 @@ use Rattle.std.proofs.lemmas.Result.{err_from_is_err_and}
 use Rattle.og_syntax.specs.Lexemes.{sort_at}
 use Rattle.og_syntax.specs.Reader.{goes_on, further_table}
 use Rattle.og_syntax.proofs.QueryRules.{table_part}
-use Rattle.og_syntax.proofs.Loops.{IsPart, one_more, all_read, not_read}
+use Rattle.og_syntax.proofs.Loops.{one_more, all_read, not_read}
 use Rattle.og_syntax.proofs.tables.more_tables.Goals as goal
 
 pub more-smaller : goal.more-smaller

@@ -4,7 +4,7 @@ use Rattle.og_syntax.specs.declared.lexeme.Sort.TheVariants as k
 use Rattle.og_syntax.specs.Reading.{past}
 use Rattle.og_syntax.specs.Reader.{and_neg, neg_in}
 use Rattle.og_syntax.proofs.WhereRules.{and_neg_part}
-use Rattle.og_syntax.proofs.Loops.{IsPart, one_more, all_read, not_read}
+use Rattle.og_syntax.proofs.Loops.{one_more, all_read, not_read}
 use Rattle.og_syntax.proofs.wheres.more_before_semis.Goals as goal
 
 pub more-smaller : goal.more-smaller
