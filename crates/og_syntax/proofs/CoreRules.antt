@@ -2,7 +2,7 @@
 use Rattle.std.proofs.Common.{ℕ, Bool, true, false, List, refl}
 use Rattle.og_syntax.specs.declared.lexeme.Sort.TheVariants as k
 use Rattle.og_syntax.specs.Lexemes.{is, same_sort, sort_at}
-use Rattle.og_syntax.specs.Meanings.{between_cores}
+use Rattle.og_syntax.specs.Meanings.{set_op_of}
 use Rattle.og_syntax.specs.Reading.{has}
 use Rattle.og_syntax.specs.Clauses.{core_of, rest_of, query_of}
 use Rattle.og_syntax.specs.Reader.{core, further_core, query}
@@ -21,12 +21,12 @@ exact-core script strict live =
     (exact-bind (exact-tables script strict)
     (λ ts. exact-map (exact-ends after_core (exact-optional (is k.Where) (exact-after k.Where refl (exact-wcond script strict live)) refl) refl) (core_of xs ts)) refl)) refl)
 
-pub exact-further_core : (script : List ℕ) (strict live : Bool) → Exact false (has (between_cores live)) after_core (further_core script strict live) (IsFurtherCore script strict live)
+pub exact-further_core : (script : List ℕ) (strict live : Bool) → Exact false (has (set_op_of live)) after_core (further_core script strict live) (IsFurtherCore script strict live)
 unfolding further_core IsFurtherCore same_sort
 exact-further_core script strict true =
-    exact-loose (exact-then (exact-worded (between_cores true) refl) (λ op. exact-map (exact-core script strict true) (rest_of op))) refl refl
+    exact-loose (exact-then (exact-worded (set_op_of true) refl) (λ op. exact-map (exact-core script strict true) (rest_of op))) refl refl
 exact-further_core script strict false =
-    exact-loose (exact-then (exact-worded (between_cores false) refl) (λ op. exact-map (exact-core script strict false) (rest_of op))) refl refl
+    exact-loose (exact-then (exact-worded (set_op_of false) refl) (λ op. exact-map (exact-core script strict false) (rest_of op))) refl refl
 
 pub exact-query : (script : List ℕ) (strict live : Bool) → Exact false (is k.Select) after_query (query script strict live) (IsQuery script strict live)
 unfolding query IsQuery same_sort
@@ -35,6 +35,6 @@ exact-query script strict true =
 exact-query script strict false =
     exact-loose (exact-bind (exact-core script strict false) (λ x. exact-map (exact-more (exact-further_core script strict false) refl) (query_of x)) refl) refl refl
 
-pub core_part : (script : List ℕ) (strict live : Bool) → IsPart (λ ts. has (between_cores live) (sort_at ts)) (further_core script strict live)
-core_part script strict true = is_part (λ ts. has (between_cores true) (sort_at ts)) refl (exact-further_core script strict true)
-core_part script strict false = is_part (λ ts. has (between_cores false) (sort_at ts)) refl (exact-further_core script strict false)
+pub core_part : (script : List ℕ) (strict live : Bool) → IsPart (λ ts. has (set_op_of live) (sort_at ts)) (further_core script strict live)
+core_part script strict true = is_part (λ ts. has (set_op_of true) (sort_at ts)) refl (exact-further_core script strict true)
+core_part script strict false = is_part (λ ts. has (set_op_of false) (sort_at ts)) refl (exact-further_core script strict false)

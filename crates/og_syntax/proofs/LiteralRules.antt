@@ -3,8 +3,9 @@ use Rattle.std.proofs.Common.{◌≡◌, ◌||◌, ℕ, ℤ, Bool, true, false, 
 use Rattle.std.specs.Str.{is_utf8}
 use Rattle.std.proofs.lemmas.Str.{IsUtf8-from_is_utf8, is_utf8-from_IsUtf8}
 use Rattle.std.proofs.lemmas.Option.{same_Some}
-use Rattle.og_time.specs.Point.{Point}
-use Rattle.og_time.specs.Period.{Period}
+use Rattle.og_base.specs.Calendar.{IsDayText}
+use Rattle.og_time.specs.Point.{Point, IsPointText}
+use Rattle.og_time.specs.Period.{Period, IsPeriodText}
 use Rattle.og_value.specs.Words.{is_word, folded}
 use Rattle.og_value.specs.declared.value.Value.{Value}
 use Rattle.og_value.specs.declared.value.Value.TheVariants as v
@@ -141,3 +142,27 @@ no_text_read script ts z rest e bad = ap (λ r. and_then r (λ z. given (text_of
     go : (o : Option (List ℕ)) → text_of z ≡ o → given o rest ≡ None
     go (Some x) h = absurd (bad (text_right z x h).0)
     go None h = refl
+
+-- ---- the values of quoted texts, by what the reading functions answer
+
+none_given : (o : Option Value) → ((x : Value) → o ≡ Some x → ⊥) → None ≡ o
+none_given (Some x) h = absurd (h x refl)
+none_given None h = refl
+
+pub day_given : (z : List ℕ) (n : ℤ) (x : Value) → IsDayText z n → x ≡ v.Point (record { low = n; high = n }) → Some x ≡ day_value_from (day_of z)
+day_given z n x is e = sym (day_left z x (n, is, e))
+
+pub no_day_given : (z : List ℕ) → ((n : ℤ) → IsDayText z n → ⊥) → None ≡ day_value_from (day_of z)
+no_day_given z h = none_given _ (λ x e. let a = day_right z x e in h a.0 a.1)
+
+pub point_given : (z : List ℕ) (p : Point) (x : Value) → IsPointText z p → x ≡ v.Point p → Some x ≡ point_value_from (point_of z)
+point_given z p x is e = sym (point_left z x (p, is, e))
+
+pub no_point_given : (z : List ℕ) → ((p : Point) → IsPointText z p → ⊥) → None ≡ point_value_from (point_of z)
+no_point_given z h = none_given _ (λ x e. let a = point_right z x e in h a.0 a.1)
+
+pub period_given : (z : List ℕ) (i : Period) (x : Value) → IsPeriodText z i → x ≡ v.Period i → Some x ≡ period_value_from (period_of z)
+period_given z i x is e = sym (period_left z x (i, is, e))
+
+pub no_period_given : (z : List ℕ) → ((i : Period) → IsPeriodText z i → ⊥) → None ≡ period_value_from (period_of z)
+no_period_given z h = none_given _ (λ x e. let a = period_right z x e in h a.0 a.1)

@@ -1,6 +1,5 @@
 -- What is found among all days, points and periods is what the text is of.
-use Rattle.std.proofs.Common.{◌≡◌, inl, inr, ◌≤ℤ◌, ◌<ℤ◌, ◌+ℤ◌, ℕ, zero, suc, ℤ, pos, Bool, true, false, List, Option, Some, None, Result, Ok, Err, IfOk, OnErr, int_le, if◌then◌else◌, refl, sym, ap, ◌∙◌, subst, arith}
-use Rattle.std.specs.Result.{result_ok}
+use Rattle.std.proofs.Common.{◌≡◌, inl, inr, ◌≤ℤ◌, ◌<ℤ◌, ◌+ℤ◌, ℕ, zero, suc, ℤ, pos, Bool, true, false, List, Option, Some, None, int_le, if◌then◌else◌, refl, sym, ap, ◌∙◌, subst, arith}
 use Rattle.std.proofs.lemmas.Int.{ints}
 use Rattle.std.proofs.lemmas.Option.{same_Some}
 use Rattle.std.proofs.lemmas.Slice.Eq.{bytes_eq-Decides}
@@ -181,21 +180,3 @@ period_of-complete text i h =
     let r : IsPeriod i = record { start_is = point_in_range h.0 i.start h.3; end_is = point_in_range h.1 i.end h.4 } in
     let a = periods_complete (if_text period_text text) i i r (if_text_complete period_text text i (period_text-is text i r h)) in
     a.1 ∙ ap Some (one_period text a.0 i (period_of-sound text a.0 a.1) h)
-
--- ---- what the reading functions answer
-
-none_found : {A : Type 0} (o : Option A) → ((x : A) → o ≡ Some x → ⊥) → None ≡ o
-none_found (Some x) h = absurd (h x refl)
-none_found None h = refl
-
-pub day_read : {E : Type 0} (text : List ℕ) (r : Result ℤ E) → IfOk r (IsDayText text) → OnErr r ((x : ℤ) → ¬ IsDayText text x) → result_ok r ≡ day_of text
-day_read text (Ok x) is isnt = sym (day_of-complete text x is)
-day_read text (Err e) is isnt = none_found (day_of text) (λ x h. isnt x (day_of-sound text x h))
-
-pub point_read : {E : Type 0} (text : List ℕ) (r : Result Point E) → IfOk r (IsPointText text) → OnErr r ((x : Point) → ¬ IsPointText text x) → result_ok r ≡ point_of text
-point_read text (Ok x) is isnt = sym (point_of-complete text x is)
-point_read text (Err e) is isnt = none_found (point_of text) (λ x h. isnt x (point_of-sound text x h))
-
-pub period_read : {E : Type 0} (text : List ℕ) (r : Result Period E) → IfOk r (IsPeriodText text) → OnErr r ((x : Period) → ¬ IsPeriodText text x) → result_ok r ≡ period_of text
-period_read text (Ok x) is isnt = sym (period_of-complete text x is)
-period_read text (Err e) is isnt = none_found (period_of text) (λ x h. isnt x (period_of-sound text x h))

@@ -1,5 +1,5 @@
 -- What may follow the parts of the grammar, by the sort of the first lexeme after them, and by whether a name comes after that one.
-use Rattle.std.specs.Prelude.{◌≡◌, Bool, true, not, ◌&&◌, List, drop}
+use Rattle.std.specs.Prelude.{◌≡◌, Bool, true, false, not, ◌&&◌, List, drop}
 use Rattle.og_syntax.specs.declared.lexeme.Sort.{Sort}
 use Rattle.og_syntax.specs.declared.lexeme.Sort.TheVariants as k
 use Rattle.og_syntax.specs.declared.lexeme.Lexeme.{Lexeme}
@@ -54,7 +54,7 @@ abbrev pub after_core : Sort → Bool → Bool
 after_core a named = after_tables a named && not (is k.Where a)
 
 abbrev pub after_query : Sort → Bool → Bool
-after_query a named = after_core a named && not (has set_op_of a)
+after_query a named = after_core a named && not (has (set_op_of false) a)
 
 -- What is read is by the rule, what is by the rule is read where such lexemes follow, and one list of lexemes is by the rule in one way at most where such lexemes follow.
 pub record IsReaderOf {A : Type 0} (follow : Sort → Bool → Bool) (p : Reads A) (P : Rule A) : Type 0 where

@@ -16,7 +16,7 @@ use Rattle.og_syntax.specs.declared.tree.SemiText.{SemiText}
 use Rattle.og_syntax.specs.declared.tree.CoreText.{CoreText}
 use Rattle.og_syntax.specs.declared.tree.RestText.{RestText}
 use Rattle.og_syntax.specs.declared.tree.QueryText.{QueryText}
-use Rattle.og_syntax.specs.Meanings.{between_cores, func_of_two, func_of_one, comparison_of, predicate_of}
+use Rattle.og_syntax.specs.Meanings.{set_op_of, func_of_two, func_of_one, comparison_of, predicate_of}
 use Rattle.og_syntax.specs.Rules.{Rule, ◌>>=◌, ◌>>◌, ◌or◌, pure, Given, Never, Tok, One, Worded, Many, Joined, Optional, Past, Single, Pair}
 use Rattle.og_syntax.specs.Spans.{spelling, content, IsNameOf, IsTextOf, IsOfForm, IsDayValue, IsPointValue, IsPeriodValue}
 use Rattle.og_syntax.specs.Clauses.{column_of, all_of, any_of, Aliased, item_of, table_of, semi_of, Where, before_semis, core_of, rest_of, query_of}
@@ -186,7 +186,7 @@ IsCore script strict live = do
   pure (core_of xs ts w)
 
 unfoldable pub IsFurtherCore : List ℕ → Bool → Bool → Rule RestText
-IsFurtherCore script strict live = do op ← Worded (between_cores live); x ← IsCore script strict live; pure (rest_of op x)
+IsFurtherCore script strict live = do op ← Worded (set_op_of live); x ← IsCore script strict live; pure (rest_of op x)
 
 -- query: core (setop core)*, and lcore (UNION lcore)* where it is live
 unfoldable pub IsQuery : List ℕ → Bool → Bool → Rule QueryText

@@ -43,17 +43,9 @@ predicate_of k.During = Some pred.During
 predicate_of k.Equals = Some pred.Equals
 predicate_of _ = None
 
-abbrev pub set_op_of : Sort → Option SetOp
-set_op_of k.Union = Some op.Union
-set_op_of k.Except = Some op.Except
-set_op_of k.Intersect = Some op.Intersect
-set_op_of _ = None
-
-abbrev pub union_of : Sort → Option SetOp
-union_of k.Union = Some op.Union
-union_of _ = None
-
--- the operators between the cores of a query, and of a live query
-abbrev pub between_cores : Bool → Sort → Option SetOp
-between_cores true a = union_of a
-between_cores false a = set_op_of a
+-- the operators between the cores of a query; between those of a live query UNION alone
+abbrev pub set_op_of : Bool → Sort → Option SetOp
+set_op_of live k.Union = Some op.Union
+set_op_of false k.Except = Some op.Except
+set_op_of false k.Intersect = Some op.Intersect
+set_op_of _ _ = None

@@ -20,7 +20,7 @@ use Rattle.og_syntax.specs.declared.tree.RestText.{RestText}
 use Rattle.og_syntax.specs.declared.tree.QueryText.{QueryText}
 use Rattle.og_syntax.specs.Clauses.{column_of, all_of, any_of, Aliased, item_of, table_of, semi_of, Where, core_of, rest_of, query_of}
 use Rattle.og_syntax.specs.Lexemes.{is, sees}
-use Rattle.og_syntax.specs.Meanings.{between_cores, func_of_two, func_of_one, comparison_of, predicate_of}
+use Rattle.og_syntax.specs.Meanings.{set_op_of, func_of_two, func_of_one, comparison_of, predicate_of}
 use Rattle.og_syntax.specs.Reading.{Reads, ◌>>=◌, ◌>>◌, pure, refuse, given, choose, choose_if, tok, one, has, worded, more, joined, joined_if, optional, past, single, pair}
 use Rattle.og_syntax.specs.Spans.{spelling, content, name_of, text_of, day_value_from, point_value_from, period_value_from, of_form}
 use Rattle.og_syntax.specs.TextValues.{day_of, point_of, period_of}
@@ -201,7 +201,7 @@ core script strict live = do
   pure (core_of xs ts w)
 
 unfoldable pub further_core : List ℕ → Bool → Bool → Reads RestText
-further_core script strict live = do op ← worded (between_cores live); x ← core script strict live; pure (rest_of op x)
+further_core script strict live = do op ← worded (set_op_of live); x ← core script strict live; pure (rest_of op x)
 
 unfoldable pub query : List ℕ → Bool → Bool → Reads QueryText
-query script strict live = do x ← core script strict live; xs ← more (has (between_cores live)) (further_core script strict live); pure (query_of x xs)
+query script strict live = do x ← core script strict live; xs ← more (has (set_op_of live)) (further_core script strict live); pure (query_of x xs)

@@ -30,7 +30,7 @@ pub fn expression<'a>(
 
 // An expression nested no deeper than the number.
 #[cycle(expressions)]
-#[tactic(auto, unfolding(crate::specs::Reader::expr_in, crate::specs::Reading::worded))]
+#[tactic(auto, unfolding(crate::specs::Reader::expr_in, crate::specs::Reader::calls_period, crate::specs::Reading::worded))]
 fn expression_in<'a>(
     alloc: Global,
     script: &[u8],
@@ -57,7 +57,7 @@ fn expression_in<'a>(
         let args = list_of_one(alloc, only)?;
         return Ok((ExprText::Call { func, args }, rest));
     }
-    if calls_period(lexemes) {
+    if sees(lexemes, Sort::Period) && sees(after(lexemes), Sort::LeftParen) {
         let rest = expect(lexemes, Sort::Period)?;
         let ((left, right), rest) = two_in(alloc, script, strict, rest, depth - 1)?;
         let args = list_of_two(alloc, left, right)?;
@@ -130,14 +130,6 @@ fn list_of_one(alloc: Global, only: ExprText) -> Result<Items<ExprText>, AllocEr
     let mut all = Items::new(alloc);
     all.push(only)?;
     Ok(all)
-}
-
-// Whether PERIOD comes and begins a call.
-#[tactic(auto, unfolding(crate::specs::Reader::calls_period))]
-fn calls_period(lexemes: &[Lexeme]) -> bool
-    ensures { result ≡ spec.calls_period lexemes.now }
-{
-    sees(lexemes, Sort::Period) && sees(after(lexemes), Sort::LeftParen)
 }
 
 // A column, by its name or by its table's name and its own.

@@ -14,34 +14,13 @@ use og_time::{OngoingPeriod, OngoingPoint, read_period, read_point};
 use og_value::Value;
 use std::alloc::Global;
 
-// The day of the text.
-fn day_of(text: &[u8]) -> Option<ExtDay>
-    ensures { result ≡ day_of text.now }
-{
-    read_day(text).ok()
-}
-
-// The point of the text.
-fn point_of(text: &[u8]) -> Option<OngoingPoint>
-    ensures { result ≡ point_of text.now }
-{
-    read_point(text).ok()
-}
-
-// The period of the text.
-fn period_of(text: &[u8]) -> Option<OngoingPeriod>
-    ensures { result ≡ period_of text.now }
-{
-    read_period(text).ok()
-}
-
 // The fixed point of a day text.
 fn day_value(text: &[u8]) -> Option<Value>
     ensures { result ≡ day_value_from (day_of text.now) }
 {
-    match day_of(text) {
-        Some(day) => Some(Value::Point(fixed(day))),
-        None => None,
+    match read_day(text) {
+        Ok(day) => Some(Value::Point(fixed(day))),
+        Err(_) => None,
     }
 }
 
@@ -59,9 +38,9 @@ fn fixed(day: ExtDay) -> OngoingPoint
 fn point_value(text: &[u8]) -> Option<Value>
     ensures { result ≡ point_value_from (point_of text.now) }
 {
-    match point_of(text) {
-        Some(point) => Some(Value::Point(point)),
-        None => None,
+    match read_point(text) {
+        Ok(point) => Some(Value::Point(point)),
+        Err(_) => None,
     }
 }
 
@@ -69,9 +48,9 @@ fn point_value(text: &[u8]) -> Option<Value>
 fn period_value(text: &[u8]) -> Option<Value>
     ensures { result ≡ period_value_from (period_of text.now) }
 {
-    match period_of(text) {
-        Some(period) => Some(Value::Period(period)),
-        None => None,
+    match read_period(text) {
+        Ok(period) => Some(Value::Period(period)),
+        Err(_) => None,
     }
 }
 

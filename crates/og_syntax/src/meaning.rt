@@ -59,24 +59,14 @@ pub fn predicate_of(sort: Sort) -> Option<Pred>
     }
 }
 
-// The operator between two queries.
-pub fn set_op_of(sort: Sort) -> Option<SetOp>
-    ensures { result ≡ spec.set_op_of sort }
+// The operator between two cores of a query. Between those of a live query it is UNION.
+pub fn set_op_of(live: bool, sort: Sort) -> Option<SetOp>
+    ensures { result ≡ spec.set_op_of live sort }
 {
-    match sort {
-        Sort::Union => Some(SetOp::Union),
-        Sort::Except => Some(SetOp::Except),
-        Sort::Intersect => Some(SetOp::Intersect),
-        _ => None,
-    }
-}
-
-// The operator between two queries, where it is UNION.
-pub fn union_of(sort: Sort) -> Option<SetOp>
-    ensures { result ≡ spec.union_of sort }
-{
-    match sort {
-        Sort::Union => Some(SetOp::Union),
+    match (live, sort) {
+        (_, Sort::Union) => Some(SetOp::Union),
+        (false, Sort::Except) => Some(SetOp::Except),
+        (false, Sort::Intersect) => Some(SetOp::Intersect),
         _ => None,
     }
 }

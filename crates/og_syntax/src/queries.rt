@@ -1,13 +1,13 @@
 //! Queries.
 ghost use Rattle.std.specs.Prelude.{◌≡◌, ◌∷◌, [], None, Some};
 ghost use Rattle.og_syntax.specs.Lexemes.{sort_at};
-ghost use Rattle.og_syntax.specs.Meanings.{between_cores};
+ghost use Rattle.og_syntax.specs.Meanings.{set_op_of};
 ghost use Rattle.og_syntax.specs.Reading.{Gives, has, more, with_front};
 ghost use Rattle.og_syntax.specs.Reader as spec;
 
 use crate::items::items;
 use crate::lexeme::{Lexeme, Sort};
-use crate::meaning::{set_op_of, union_of};
+use crate::meaning::set_op_of;
 use crate::refusal::Refusal;
 use crate::step::{after, expect, same_sort, sort_at};
 use crate::tables::tables;
@@ -49,34 +49,16 @@ fn more_cores<'a>(
     lexemes: &'a [Lexeme],
     parts: Items<RestText>,
 ) -> Result<(Items<RestText>, &'a [Lexeme]), Refusal>
-    ensures { Gives result (with_front parts (more (has (between_cores live)) (spec.further_core script.now strict live) lexemes.now)) }
+    ensures { Gives result (with_front parts (more (has (set_op_of live)) (spec.further_core script.now strict live) lexemes.now)) }
 {
     let mut parts = parts;
     let mut rest = lexemes;
-    'more: while goes_on(live, rest) {
+    'more: while set_op_of(live, sort_at(rest)).is_some() {
         let (part, left) = further_core(alloc, script, strict, live, rest)?;
         parts.push(part)?;
         rest = left;
     }
     Ok((parts, rest))
-}
-
-// Whether an operator between cores comes.
-fn goes_on(live: bool, lexemes: &[Lexeme]) -> bool
-    ensures { result ≡ has (between_cores live) (sort_at lexemes.now) }
-{
-    between_cores(live, sort_at(lexemes)).is_some()
-}
-
-// The operator between two cores.
-fn between_cores(live: bool, sort: Sort) -> Option<SetOp>
-    ensures { result ≡ between_cores live sort }
-{
-    if live {
-        union_of(sort)
-    } else {
-        set_op_of(sort)
-    }
 }
 
 // A core after its operator.
@@ -90,7 +72,7 @@ fn further_core<'a>(
 ) -> Result<(RestText, &'a [Lexeme]), Refusal>
     ensures { Gives result (spec.further_core script.now strict live lexemes.now) }
 {
-    let Some(op) = between_cores(live, sort_at(lexemes)) else {
+    let Some(op) = set_op_of(live, sort_at(lexemes)) else {
         return Err(Refusal::Syntax);
     };
     let (core, rest) = query_core(alloc, script, strict, live, after(lexemes))?;

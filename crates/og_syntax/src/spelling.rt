@@ -46,14 +46,9 @@ fn front_bytes(bytes: &[u8], count: usize) -> &[u8]
 fn content(alloc: Global, script: &[u8], lexeme: Lexeme) -> Result<Vec<u8>, NoMemory>
     ensures { IfOk result (λ z. z.items ≡ spans.content script.now lexeme) }
 {
-    singled(alloc, inside(spelling(script, lexeme)))
-}
-
-// The bytes between the first one and the last one.
-fn inside(bytes: &[u8]) -> &[u8]
-    ensures { result.now ≡ spans.inside bytes.now }
-{
-    front_bytes(after_bytes(bytes, 1), bytes.len().saturating_sub(2))
+    let bytes = spelling(script, lexeme);
+    let inside = front_bytes(after_bytes(bytes, 1), bytes.len().saturating_sub(2));
+    singled(alloc, inside)
 }
 
 // The bytes with the second quote of each pair of quotes left out.

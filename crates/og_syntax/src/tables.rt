@@ -30,7 +30,7 @@ pub fn table_name<'a>(
 }
 
 // An alias, after AS or not, or none.
-#[tactic(auto, unfolding(crate::specs::Reader::alias))]
+#[tactic(auto, unfolding(crate::specs::Reader::alias, crate::specs::Reader::as_name))]
 fn alias<'a>(
     alloc: Global,
     script: &[u8],
@@ -42,20 +42,12 @@ fn alias<'a>(
         let (alias, rest) = name(alloc, script, lexemes)?;
         return Ok((Some(alias), rest));
     }
-    if as_name(lexemes) {
+    if sees(lexemes, Sort::As) && sees(after(lexemes), Sort::Name) {
         let rest = expect(lexemes, Sort::As)?;
         let (alias, rest) = name(alloc, script, rest)?;
         return Ok((Some(alias), rest));
     }
     Ok((None, lexemes))
-}
-
-// Whether AS comes and a name after it.
-#[tactic(auto, unfolding(crate::specs::Reader::as_name))]
-fn as_name(lexemes: &[Lexeme]) -> bool
-    ensures { result ≡ spec.as_name lexemes.now }
-{
-    sees(lexemes, Sort::As) && sees(after(lexemes), Sort::Name)
 }
 
 // What stands after FROM.
@@ -86,20 +78,12 @@ fn more_tables<'a>(
 {
     let mut parts = parts;
     let mut rest = lexemes;
-    'more: while goes_on(rest) {
+    'more: while same_sort(sort_at(rest), Sort::Comma) || same_sort(sort_at(rest), Sort::Join) {
         let (part, left) = further_table(alloc, script, strict, rest)?;
         parts.push(part)?;
         rest = left;
     }
     Ok((parts, rest))
-}
-
-// Whether a comma or JOIN comes.
-fn goes_on(lexemes: &[Lexeme]) -> bool
-    ensures { result ≡ spec.goes_on (sort_at lexemes.now) }
-{
-    let sort = sort_at(lexemes);
-    same_sort(sort, Sort::Comma) || same_sort(sort, Sort::Join)
 }
 
 // The first table, or one after a comma.
