@@ -1,5 +1,5 @@
 -- The words and symbols that have a meaning of their own.
-use Rattle.std.specs.Prelude.{Bool, true, false, Option, Some, None}
+use Rattle.std.specs.Prelude.{Bool, false, Option, Some, None}
 use Rattle.og_value.specs.declared.term.Func.{Func}
 use Rattle.og_value.specs.declared.term.Func.TheVariants as func
 use Rattle.og_value.specs.declared.term.Cmp.{Cmp}

@@ -24,7 +24,13 @@ pub use lexeme::{Lexeme, Sort};
 pub use literals::literal;
 pub use queries::query;
 pub use refusal::Refusal;
+pub use spelling::{name, quoted, text};
+pub use step::{after, expect, one, same_sort, sees, sort_at};
+pub use tables::table_name;
 pub use tree::{
     CondText, CoreText, ExprText, FromText, ItemText, ItemsText, QueryText, RestText, Script,
     SemiText, SetText, Stmt,
 };
+
+#[cfg(test)]
+mod tests;

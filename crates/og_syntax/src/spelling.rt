@@ -85,7 +85,7 @@ pub fn name<'a>(
     }
 }
 
-// What stands between the quotes that the lexemes begin with.
+/// What stands between the quotes that the lexemes begin with, each doubled quote made single.
 #[tactic(auto, unfolding(crate::specs::Reader::quoted))]
 pub fn quoted<'a>(
     alloc: Global,

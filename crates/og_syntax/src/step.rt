@@ -6,7 +6,7 @@ ghost use Rattle.og_syntax.specs.Reading.{Gives, Passes, one, tok};
 use crate::lexeme::{Lexeme, Sort};
 use crate::refusal::Refusal;
 
-// Whether both are the same.
+/// Whether both are the same.
 #[tactic(auto, unfolding(crate::specs::Lexemes::same_sort))]
 pub fn same_sort(a: Sort, b: Sort) -> bool
     ensures { result ≡ same_sort a b }
@@ -14,7 +14,7 @@ pub fn same_sort(a: Sort, b: Sort) -> bool
     a == b
 }
 
-// The sort of the first lexeme.
+/// The sort of the first lexeme, which is `Nothing` where there is none.
 pub fn sort_at(lexemes: &[Lexeme]) -> Sort
     ensures { result ≡ sort_at lexemes.now }
 {
@@ -24,7 +24,7 @@ pub fn sort_at(lexemes: &[Lexeme]) -> Sort
     }
 }
 
-// Whether a lexeme of that sort comes first.
+/// Whether a lexeme of that sort comes first.
 #[tactic(auto, unfolding(crate::specs::Lexemes::sees))]
 pub fn sees(lexemes: &[Lexeme], sort: Sort) -> bool
     ensures { result ≡ sees sort lexemes.now }
@@ -32,7 +32,7 @@ pub fn sees(lexemes: &[Lexeme], sort: Sort) -> bool
     same_sort(sort_at(lexemes), sort)
 }
 
-// The lexemes after the first one.
+/// The lexemes after the first one.
 pub fn after(lexemes: &[Lexeme]) -> &[Lexeme]
     ensures { result.now ≡ drop 1 lexemes.now }
 {
@@ -42,7 +42,7 @@ pub fn after(lexemes: &[Lexeme]) -> &[Lexeme]
     }
 }
 
-// The lexemes after one of that sort.
+/// The lexemes after one of that sort. `Syntax` exactly where no such lexeme comes first.
 #[tactic(auto, unfolding(crate::specs::Reading::tok))]
 pub fn expect(lexemes: &[Lexeme], sort: Sort) -> Result<&[Lexeme], Refusal>
     ensures { Passes result (tok sort lexemes.now) }
@@ -54,7 +54,7 @@ pub fn expect(lexemes: &[Lexeme], sort: Sort) -> Result<&[Lexeme], Refusal>
     }
 }
 
-// The first lexeme, where it is of that sort, and those after it.
+/// The first lexeme and those after it. `Syntax` exactly where it is not of that sort.
 #[tactic(auto, unfolding(crate::specs::Reading::one))]
 pub fn one(lexemes: &[Lexeme], sort: Sort) -> Result<(Lexeme, &[Lexeme]), Refusal>
     ensures { Gives result (one sort lexemes.now) }

@@ -15,7 +15,7 @@ use og_value::Name;
 use sqlite_items::Items;
 use std::alloc::Global;
 
-// A name and its alias.
+/// The name of a table and its alias, which may stand after AS, and the lexemes after them.
 #[tactic(auto, unfolding(crate::specs::Reader::fitem))]
 pub fn table_name<'a>(
     alloc: Global,

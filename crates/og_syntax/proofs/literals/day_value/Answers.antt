@@ -1,4 +1,4 @@
-use Rattle.std.proofs.Common.{refl, ap}
+use Rattle.std.proofs.Common.{ap}
 use Rattle.og_value.specs.declared.value.Value.TheVariants as v
 use Rattle.og_syntax.proofs.LiteralRules.{day_given, no_day_given}
 use Rattle.og_syntax.proofs.literals.day_value.Goals as goal

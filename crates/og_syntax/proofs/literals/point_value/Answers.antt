@@ -1,5 +1,4 @@
-use Rattle.std.proofs.Common.{refl, ap}
-use Rattle.og_value.specs.declared.value.Value.TheVariants as v
+use Rattle.std.proofs.Common.{refl}
 use Rattle.og_syntax.proofs.LiteralRules.{point_given, no_point_given}
 use Rattle.og_syntax.proofs.literals.point_value.Goals as goal
 
