@@ -17,30 +17,37 @@ use Rattle.og_syntax.proofs.Exact.{Exact, exact-never, exact-worded, exact-bind,
 use Rattle.og_syntax.proofs.Loops.{IsPart, is_part, after_sort}
 use Rattle.og_syntax.proofs.ExpressionRules.{expr_begins, exact-expr}
 
+-- what an atom begins with
 abbrev pub atom_begins : Sort → Bool
 atom_begins a = is k.LeftParen a || is k.Empty a || is k.Contains a || expr_begins a
 
+-- what a negation begins with
 abbrev pub neg_begins : Sort → Bool
 neg_begins a = is k.Not a || atom_begins a
 
+-- conj
 pub exact-conj_of : {neg : Reads CondText} {Neg : Rule CondText} → Exact false neg_begins after_expr neg Neg → Exact false neg_begins after_conj (conj_of neg) (IsConjOf Neg)
 unfolding conj_of IsConjOf same_sort
 exact-conj_of E = exact-map (exact-joined E (exact-after k.And refl E) refl refl) all_of
 
+-- cond, of such negations
 pub exact-cond_of : {neg : Reads CondText} {Neg : Rule CondText} → Exact false neg_begins after_expr neg Neg → Exact false neg_begins after_cond (cond_of neg) (IsCondOf Neg)
 unfolding cond_of IsCondOf same_sort
 exact-cond_of E = exact-map (exact-joined (exact-conj_of E) (exact-after k.Or refl (exact-conj_of E)) refl refl) any_of
 
+-- cmp expr
 pub exact-compare : (script : List ℕ) (strict : Bool) (x : ExprText) → Exact false (has comparison_of) after_expr (compare script strict x) (IsCompare script strict x)
 unfolding compare IsCompare same_sort
 exact-compare script strict x =
     exact-loose (exact-then (exact-worded comparison_of refl) (λ op. exact-map (exact-expr script strict) (λ y. c.Compare op x y))) refl refl
 
+-- pred expr
 pub exact-relate : (script : List ℕ) (strict : Bool) (x : ExprText) → Exact false (has predicate_of) after_expr (relate script strict x) (IsRelate script strict x)
 unfolding relate IsRelate same_sort
 exact-relate script strict x =
     exact-loose (exact-then (exact-worded predicate_of refl) (λ pred. exact-map (exact-expr script strict) (λ y. c.Relate pred x y))) refl refl
 
+-- expr cmp expr, and expr pred expr
 pub exact-relation : (script : List ℕ) (strict : Bool) → Exact false expr_begins after_expr (relation script strict) (IsRelation script strict)
 unfolding relation IsRelation same_sort
 exact-relation script strict =
@@ -49,6 +56,7 @@ exact-relation script strict =
     (λ x. exact-choose (has comparison_of) (exact-compare script strict x) (exact-relate script strict x) refl refl) refl)
     refl refl
 
+-- atom
 pub exact-atom_of : (script : List ℕ) (strict : Bool) {neg : Reads CondText} {Neg : Rule CondText} → Exact false neg_begins after_expr neg Neg
     → Exact false atom_begins after_expr (atom_of script strict neg) (IsAtomOf script strict Neg)
 unfolding atom_of IsAtomOf same_sort
@@ -60,6 +68,7 @@ exact-atom_of script strict E =
     (exact-relation script strict) refl refl) refl refl) refl refl)
     refl refl
 
+-- neg
 pub exact-neg_in : (script : List ℕ) (strict : Bool) (d : ℕ) → Exact false neg_begins after_expr (neg_in script strict d) (IsNegIn script strict d)
 unfolding neg_in IsNegIn same_sort
 exact-neg_in script strict zero = exact-loose exact-never refl refl
@@ -68,6 +77,7 @@ exact-neg_in script strict (suc d) =
     (exact-choose (is k.Not) (exact-after k.Not refl (exact-map (exact-neg_in script strict d) c.Not)) (exact-atom_of script strict (exact-neg_in script strict d)) refl refl)
     refl refl
 
+-- cond
 pub exact-cond : (script : List ℕ) (strict : Bool) → Exact false neg_begins after_cond (cond script strict) (IsCond script strict)
 unfolding cond IsCond
 exact-cond script strict = record {
@@ -78,10 +88,12 @@ exact-cond script strict = record {
 
 -- ---- the parts of lists of conditions
 
+-- a part of a conjunction
 pub and_part : (script : List ℕ) (strict : Bool) (d : ℕ) → IsPart (after_sort k.And) (past k.And (neg_in script strict d))
 unfolding same_sort
 and_part script strict d = is_part (after_sort k.And) refl (exact-after k.And refl (exact-neg_in script strict d))
 
+-- a part of a condition
 pub or_part : (script : List ℕ) (strict : Bool) (d : ℕ) → IsPart (after_sort k.Or) (past k.Or (conj_of (neg_in script strict d)))
 unfolding same_sort
 or_part script strict d = is_part (after_sort k.Or) refl (exact-after k.Or refl (exact-conj_of (exact-neg_in script strict d)))

@@ -13,6 +13,7 @@ use Rattle.og_syntax.proofs.Loops.{IsPart, is_part}
 use Rattle.og_syntax.proofs.QueryRules.{exact-items, exact-tables}
 use Rattle.og_syntax.proofs.WhereRules.{exact-wcond}
 
+-- core
 pub exact-core : (script : List ℕ) (strict live : Bool) → Exact false (is k.Select) after_core (core script strict live) (IsCore script strict live)
 unfolding core IsCore same_sort
 exact-core script strict live =
@@ -21,6 +22,7 @@ exact-core script strict live =
     (exact-bind (exact-tables script strict)
     (λ ts. exact-map (exact-ends after_core (exact-optional (is k.Where) (exact-after k.Where refl (exact-wcond script strict live)) refl) refl) (core_of xs ts)) refl)) refl)
 
+-- setop core
 pub exact-further_core : (script : List ℕ) (strict live : Bool) → Exact false (has (set_op_of live)) after_core (further_core script strict live) (IsFurtherCore script strict live)
 unfolding further_core IsFurtherCore same_sort
 exact-further_core script strict true =
@@ -28,6 +30,7 @@ exact-further_core script strict true =
 exact-further_core script strict false =
     exact-loose (exact-then (exact-worded (set_op_of false) refl) (λ op. exact-map (exact-core script strict false) (rest_of op))) refl refl
 
+-- query
 pub exact-query : (script : List ℕ) (strict live : Bool) → Exact false (is k.Select) after_query (query script strict live) (IsQuery script strict live)
 unfolding query IsQuery same_sort
 exact-query script strict true =
@@ -35,6 +38,7 @@ exact-query script strict true =
 exact-query script strict false =
     exact-loose (exact-bind (exact-core script strict false) (λ x. exact-map (exact-more (exact-further_core script strict false) refl) (query_of x)) refl) refl refl
 
+-- a part of a query
 pub core_part : (script : List ℕ) (strict live : Bool) → IsPart (λ ts. has (set_op_of live) (sort_at ts)) (further_core script strict live)
 core_part script strict true = is_part (λ ts. has (set_op_of true) (sort_at ts)) refl (exact-further_core script strict true)
 core_part script strict false = is_part (λ ts. has (set_op_of false) (sort_at ts)) refl (exact-further_core script strict false)

@@ -31,10 +31,12 @@ sort_in [] n = None
 sort_in (a ∷ listed) zero = Some a
 sort_in (a ∷ listed) (suc n) = sort_in listed n
 
+-- the first of two that hold
 left_true : (a b : Bool) → (a && b) ≡ true → a ≡ true
 left_true true b e = refl
 left_true false b e = e
 
+-- the second of two that hold
 right_true : (a b : Bool) → (a && b) ≡ true → b ≡ true
 right_true true b e = e
 right_true false b e = cc

@@ -16,9 +16,11 @@ use Rattle.og_syntax.proofs.EverySort.{sorts, everywhere_in, everywhere, every_s
 
 -- ---- tests
 
+-- the second holds where the first does
 abbrev pub implies : Bool → Bool → Bool
 implies a b = not a || b
 
+-- from the one to the other
 pub so : (a b : Bool) → implies a b ≡ true → a ≡ true → b ≡ true
 so true b e h = e
 so false b e h = cc
@@ -27,42 +29,52 @@ so false b e h = cc
 abbrev pub everywhere_twice : (Sort → Bool → Bool) → Bool
 everywhere_twice h = everywhere (λ a. h a true && h a false)
 
+-- the first of two that hold
 pub left_of : (a b : Bool) → (a && b) ≡ true → a ≡ true
 left_of true b e = refl
 left_of false b e = cc
 
+-- the second of two that hold
 pub right_of : (a b : Bool) → (a && b) ≡ true → b ≡ true
 right_of true b e = e
 right_of false b e = cc
 
+-- two that hold, hold together
 pub both_of : (a b : Bool) → a ≡ true → b ≡ true → (a && b) ≡ true
 both_of true b e f = f
 both_of false b e f = cc
 
+-- one of two holds
 pub or_left : (a b : Bool) → a ≡ true → (a || b) ≡ true
 or_left true b e = refl
 or_left false b e = cc
 
+-- the other of two holds
 pub or_right : (a b : Bool) → b ≡ true → (a || b) ≡ true
 or_right true b e = refl
 or_right false b e = e
 
+-- what is not so is false
 pub not_true : (a : Bool) → not a ≡ true → a ≡ false
 not_true true e = cc
 not_true false e = refl
 
+-- what is false is not so
 pub not_false : (a : Bool) → a ≡ false → not a ≡ true
 not_false true e = cc
 not_false false e = refl
 
+-- what holds at each sort holds of every sort, whether a name comes after it or not
 pub every_twice : (h : Sort → Bool → Bool) → everywhere_twice h ≡ true → (a : Sort) (named : Bool) → h a named ≡ true
 every_twice h e a true = left_of (h a true) (h a false) (every_sort (λ a. h a true && h a false) e a)
 every_twice h e a false = right_of (h a true) (h a false) (every_sort (λ a. h a true && h a false) e a)
 
+-- what holds, holds
 self : (a : Bool) → implies a a ≡ true
 self true = refl
 self false = refl
 
+-- what holds of every sort holds at each sort of a list
 in_all : (h : Sort → Bool) (listed : List Sort) → ((a : Sort) → h a ≡ true) → everywhere_in h listed ≡ true
 in_all h [] e = refl
 in_all h (a ∷ listed) e = both_of (h a) _ (e a) (in_all h listed e)
@@ -71,20 +83,25 @@ in_all h (a ∷ listed) e = both_of (h a) _ (e a) (in_all h listed e)
 pub all_so : (f g : Sort → Bool) → ((a : Sort) → implies (f a) (g a) ≡ true) → everywhere (λ a. implies (f a) (g a)) ≡ true
 all_so f g e = in_all (λ a. implies (f a) (g a)) sorts e
 
+-- a test holds where it holds
 pub all_so_twice : (F : Sort → Bool → Bool) → everywhere_twice (λ a named. implies (F a named) (F a named)) ≡ true
 all_so_twice F = in_all (λ a. implies (F a true) (F a true) && implies (F a false) (F a false)) sorts (λ a. both_of _ _ (self (F a true)) (self (F a false)))
 
+-- what is false adds nothing
 pub or_none : (a b : Bool) → implies (a || (false && b)) a ≡ true
 or_none true b = refl
 or_none false b = refl
 
+-- no sort
 abbrev pub nothing : Sort → Bool
 nothing a = false
 
+-- two sorts that are the same are equal
 pub is_sort : (a b : Sort) → same_sort a b ≡ true → a ≡ b
 unfolding same_sort
 is_sort a b e = same_true the_type (search rules) a b e
 
+-- a sort is the same as itself
 pub same_self : (a : Sort) → same_sort a a ≡ true
 unfolding same_sort
 same_self a = every_sort (λ a. same_sort a a) refl a
@@ -98,12 +115,15 @@ pub record Exact {A : Type 0} (empty : Bool) (first : Sort → Bool) (follow : S
   pub lead : (ts : List Lexeme) (x : A) (rest : List Lexeme) → P ts x rest
       → ((first (sort_at ts) ≡ true) × (length rest < length ts)) ⊎ ((empty ≡ true) × (rest ≡ ts))
 
+-- what is read is one value with one list of lexemes after it
 pub same_got : {A : Type 0} (x y : A) (r s : List Lexeme) → got x r ≡ got y s → (x ≡ y) × (r ≡ s)
 same_got x y r s e = let pair = same_Some (x, r) (y, s) e in (ap (λ z. z.0) pair, ap (λ z. z.1) pair)
 
+-- equal values with equal lexemes after them are read alike
 pub got_same : {A : Type 0} (x y : A) (r s : List Lexeme) → x ≡ y → r ≡ s → got x r ≡ got y s
 got_same x y r s e f = ap (λ z. got z r) e ∙ ap (got y) f
 
+-- a value without a lexeme
 pub exact-pure : {A : Type 0} (a : A) → Exact true nothing anything (reading.pure a) (rules_.pure a)
 exact-pure a = record {
   sound = λ ts x rest e. let s = same_got a x ts rest e in (sym s.0, sym s.1);
@@ -111,6 +131,7 @@ exact-pure a = record {
   lead = λ ts x rest h. inr (refl, h.1);
 }
 
+-- nothing
 pub exact-never : {A : Type 0} → Exact {A = A} false nothing anything refuse Never
 exact-never = record {
   sound = λ ts x rest e. cc;
@@ -118,6 +139,7 @@ exact-never = record {
   lead = λ ts x rest h. absurd h;
 }
 
+-- a value that is found exactly where it has the property
 pub exact-given : {A : Type 0} (o : Option A) (R : A → Type 0) → ((x : A) → o ≡ Some x → R x) → ((x : A) → R x → o ≡ Some x) → Exact true nothing anything (given o) (Given R)
 exact-given {A} o R right left = record {
   sound = λ ts x rest e. (right x (value o ts x rest e), left_over o ts x rest e);
@@ -133,10 +155,12 @@ exact-given {A} o R right left = record {
     left_over (Some y) ts x rest e = sym (same_got y x ts rest e).1
     left_over None ts x rest e = cc
 
+-- a lexeme with a meaning
 word_sound : {A : Type 0} (table : Sort → Option A) (t : Lexeme) (ts : List Lexeme) (o : Option A) (x : A) (rest : List Lexeme) → table t.sort ≡ o → word_from o (t ∷ ts) ≡ got x rest → Worded table (t ∷ ts) x rest
 word_sound table t ts (Some y) x rest e h = let s = same_got y x ts rest h in (t, ap (λ r. t ∷ r) s.1, e ∙ ap Some s.0)
 word_sound table t ts None x rest e h = cc
 
+-- a lexeme with a meaning
 pub exact-worded : {A : Type 0} (table : Sort → Option A) → is_there (table k.Nothing) ≡ false → Exact false (has table) anything (worded table) (Worded table)
 unfolding worded
 exact-worded {A} table none = record {
@@ -157,10 +181,12 @@ exact-worded {A} table none = record {
     sound-worded [] x rest h = past (table k.Nothing) x rest none h
     sound-worded (t ∷ ts) x rest h = word_sound table t ts (table t.sort) x rest refl h
 
+-- a lexeme of the sort
 tok_sound : (sort : Sort) (t : Lexeme) (ts : List Lexeme) (b : Bool) (x : Unit {0}) (rest : List Lexeme) → same_sort t.sort sort ≡ b → (if b then got tt ts else None) ≡ got x rest → Tok sort (t ∷ ts) x rest
 tok_sound sort t ts true x rest e h = (t, ap (λ r. t ∷ r) (same_got tt x ts rest h).1, is_sort t.sort sort e)
 tok_sound sort t ts false x rest e h = cc
 
+-- a lexeme of the sort
 pub exact-tok : (sort : Sort) → same_sort k.Nothing sort ≡ false → Exact false (λ a. same_sort a sort) anything (tok sort) (Tok sort)
 unfolding tok sees
 exact-tok sort none = record {
@@ -178,12 +204,14 @@ exact-tok sort none = record {
     sound-tok [] x rest h = let e : None ≡ got x rest = sym (ap (λ b. if b then got tt [] else None) none) ∙ h in cc
     sound-tok (t ∷ ts) x rest h = tok_sound sort t ts (same_sort t.sort sort) x rest refl h
 
+-- the lexeme itself
 one_sound : (sort : Sort) (t : Lexeme) (ts : List Lexeme) (b : Bool) (x : Lexeme) (rest : List Lexeme) → same_sort t.sort sort ≡ b → (if b then got t ts else None) ≡ got x rest → One sort (t ∷ ts) x rest
 one_sound sort t ts true x rest e h =
     let s = same_got t x ts rest h in
     (ap (λ y. y ∷ ts) s.0 ∙ ap (λ r. x ∷ r) s.1, ap (λ y. y.sort) (sym s.0) ∙ is_sort t.sort sort e)
 one_sound sort t ts false x rest e h = cc
 
+-- the lexeme itself
 pub exact-one : (sort : Sort) → Exact false (λ a. same_sort a sort) anything (one sort) (One sort)
 unfolding one
 exact-one sort = record {
@@ -202,6 +230,7 @@ exact-one sort = record {
 
 -- ---- the one, and then the other
 
+-- what is read one after the other is by one rule after the other
 pub bind_sound : {A B : Type 0} (p : Reads A) (P : Rule A) (q : A → Reads B) (Q : A → Rule B)
     → ((ts : List Lexeme) (x : A) (rest : List Lexeme) → p ts ≡ got x rest → P ts x rest)
     → ((x : A) (ts : List Lexeme) (y : B) (rest : List Lexeme) → q x ts ≡ got y rest → Q x ts y rest)
@@ -216,6 +245,7 @@ bind_sound {A} {B} p P q Q ps qs ts y rest e = go (p ts) refl e
 abbrev pub may : Bool → (Sort → Bool) → (Sort → Bool → Bool) → (Sort → Bool → Bool) → Bool
 may empty g G F = everywhere_twice (λ a named. implies (g a || (empty && G a named)) (F a named))
 
+-- what comes is what may follow the first
 pub may_follow : {B : Type 0} {e : Bool} {g : Sort → Bool} {G : Sort → Bool → Bool} {q : Reads B} {Q : Rule B} (F : Sort → Bool → Bool)
     → Exact e g G q Q → may e g G F ≡ true → (ts : List Lexeme) (y : B) (rest : List Lexeme) → Q ts y rest → ahead G rest ≡ true → ahead F ts ≡ true
 may_follow {B} {e} {g} {G} {q} {Q} F D can ts y rest h f = go (D.lead ts y rest h)
@@ -247,6 +277,7 @@ bind_lead {A} {B} {e} {d} {f} {g} {F} {G} {p} {P} {q} {Q} E D ts y rest h = go (
     )
     go (inr a) (inr b) = inr (both_of e d a.0 b.0, b.1 ∙ a.1)
 
+-- the one, and then the other
 pub exact-bind : {A B : Type 0} {e d : Bool} {f g : Sort → Bool} {F G : Sort → Bool → Bool} {p : Reads A} {P : Rule A} {q : A → Reads B} {Q : A → Rule B}
     → Exact e f F p P → ((x : A) → Exact d g G (q x) (Q x)) → may d g G F ≡ true
     → Exact (e && d) (λ a. f a || (e && g a)) G (reading.bind p q) (rules_.Bind P Q)
@@ -299,6 +330,7 @@ exact-map {A} {B} {e} {f} {F} {p} {P} E g = record {
 
 -- ---- the one, or the other
 
+-- what is read by one of two is by one of two rules
 pub if_sound : {A : Type 0} (b : Bool) (p q : Outcome A) (x : A) (rest : List Lexeme) (P Q : Type 0)
     → (p ≡ got x rest → P) → (q ≡ got x rest → Q) → (if b then p else q) ≡ got x rest → P ⊎ Q
 if_sound true p q x rest P Q l r e = inl (l e)
@@ -396,6 +428,7 @@ shrinks {A} {f} E ts x rest h = go (E.lead ts x rest h)
     go (inl a) = a
     go (inr a) = cc
 
+-- parts that are read are by the rule
 pub more_sound : {A : Type 0} (h : List Lexeme → Bool) (q : Reads A) (Q : Rule A)
     → ((ts : List Lexeme) (x : A) (rest : List Lexeme) → q ts ≡ got x rest → Q ts x rest)
     → (n : ℕ) (ts : List Lexeme) (xs : List A) (rest : List Lexeme) → more_if_from h q n ts ≡ got xs rest → Many Q ts xs rest
@@ -426,6 +459,7 @@ many_ahead {A} {f} {F} E can ts [] rest m after = subst (λ r. ahead F r ≡ tru
 many_ahead {A} {f} {F} E can ts (x ∷ xs) rest m after =
     so _ _ (every_twice (λ a named. implies (f a || (false && true)) (F a named)) can (sort_at ts) (sees k.Name (drop 1 ts))) (or_left _ _ (shrinks E ts x m.0 m.1).0)
 
+-- nothing is below nothing
 pub too_few : (a b : ℕ) → a < b → b ≤ 0 → ⊥
 too_few a b less le = omega (arith, less, le)
 
@@ -449,11 +483,13 @@ more_complete {A} {f} {F} {q} h E can test (suc n) ts (x ∷ xs) rest m after st
     fewer : (a b n : ℕ) → a < b → b ≤ suc n → a ≤ n
     fewer a b n l m = omega (arith, l, m)
 
+-- parts add no lexemes
 many_shorter : {A : Type 0} {h : Sort → Bool} {F : Sort → Bool → Bool} {q : Reads A} {Q : Rule A}
     → Exact false h F q Q → (ts : List Lexeme) (xs : List A) (rest : List Lexeme) → Many Q ts xs rest → length rest ≤ length ts
 many_shorter E ts [] rest m = subst (λ r. length rest ≤ length r) m (le_refl (length rest))
 many_shorter E ts (x ∷ xs) rest m = let a = many_shorter E m.0 xs rest m.2 in let b = (shrinks E ts x m.0 m.1).1 in omega (arith, a, b)
 
+-- parts begin as a part does, or there is none
 many_lead : {A : Type 0} {h : Sort → Bool} {F : Sort → Bool → Bool} {q : Reads A} {Q : Rule A}
     → Exact false h F q Q → (ts : List Lexeme) (xs : List A) (rest : List Lexeme) → Many Q ts xs rest
     → ((h (sort_at ts) ≡ true) × (length rest < length ts)) ⊎ ((true ≡ true) × (rest ≡ ts))
@@ -461,6 +497,7 @@ many_lead E ts [] rest m = inr (refl, m)
 many_lead E ts (x ∷ xs) rest m =
     let a = many_shorter E m.0 xs rest m.2 in let b = shrinks E ts x m.0 m.1 in let c = b.1 in inl (b.0, omega (arith, a, c))
 
+-- any number of parts, for as long as one of their sorts comes
 pub exact-more : {A : Type 0} {h : Sort → Bool} {F : Sort → Bool → Bool} {q : Reads A} {Q : Rule A}
     → Exact false h F q Q → may false h anything F ≡ true → Exact true h (λ a named. F a named && not (h a)) (more h q) (Many Q)
 unfolding more_if
@@ -483,6 +520,7 @@ exact-joined {A} {f} {h} {F} {G} {p} {q} {P} {Q} E D can follows =
 
 -- ---- what any lexemes may follow
 
+-- whatever comes may follow where anything may
 any_may : (d : Bool) (g : Sort → Bool) (G : Sort → Bool → Bool) → may d g G anything ≡ true
 any_may d g G = in_all (λ a. implies (g a || (d && G a true)) true && implies (g a || (d && G a false)) true) sorts (λ a. both_of _ _ (always _) (always _))
   where
@@ -490,6 +528,7 @@ any_may d g G = in_all (λ a. implies (g a || (d && G a true)) true && implies (
     always true = refl
     always false = refl
 
+-- the one, after which anything may follow, and then the other
 pub exact-then : {A B : Type 0} {e d : Bool} {f g : Sort → Bool} {G : Sort → Bool → Bool} {p : Reads A} {P : Rule A} {q : A → Reads B} {Q : A → Rule B}
     → Exact e f anything p P → ((x : A) → Exact d g G (q x) (Q x))
     → Exact (e && d) (λ a. f a || (e && g a)) G (reading.bind p q) (rules_.Bind P Q)
@@ -503,12 +542,14 @@ exact-after {B} {d} {g} {G} sort none D =
     (all_so (λ a. same_sort a sort || (false && g a)) (λ a. same_sort a sort) (λ a. or_none (same_sort a sort) (g a)))
     (all_so_twice G)
 
+-- a part in parentheses
 pub exact-single : {A : Type 0} {f : Sort → Bool} {F : Sort → Bool → Bool} {p : Reads A} {P : Rule A}
     → Exact false f F p P → may false (λ a. same_sort a k.RightParen) anything F ≡ true → Exact false (λ a. same_sort a k.LeftParen) anything (single p) (Single P)
 unfolding same_sort
 exact-single E right =
     exact-after k.LeftParen refl (exact-bind E (λ x. exact-after k.RightParen refl (exact-pure x)) right)
 
+-- two parts in parentheses
 pub exact-pair : {A : Type 0} {f : Sort → Bool} {F : Sort → Bool → Bool} {p : Reads A} {P : Rule A}
     → Exact false f F p P → may false (λ a. same_sort a k.Comma) F F ≡ true → may false (λ a. same_sort a k.RightParen) anything F ≡ true
     → Exact false (λ a. same_sort a k.LeftParen) anything (pair p) (Pair P)

@@ -19,6 +19,7 @@ use Rattle.og_syntax.proofs.EverySort.{everywhere, every_sort}
 use Rattle.og_syntax.proofs.Exact.{Exact, implies, so, not_true, both_of, same_self, shrinks, exact-never, exact-one, exact-worded, exact-bind, exact-then, exact-after, exact-map, exact-loose, exact-any, exact-choose, exact-choose_if, exact-optional, exact-single, exact-pair}
 use Rattle.og_syntax.proofs.LiteralRules.{exact-name, exact-text, exact-quoted, exact-day_lit, exact-point_lit, lit_begins, exact-lit}
 
+-- name, and name . name
 pub exact-column : (script : List ℕ) → Exact false (is k.Name) after_expr (column script) (IsColumn script)
 unfolding column IsColumn same_sort
 exact-column script =
@@ -66,9 +67,11 @@ lit_calls_nothing script strict ts x rest (inr (inr (inr (inl h)))) = other_firs
 lit_calls_nothing script strict ts x rest (inr (inr (inr (inr h)))) =
     other_second k.Period k.LeftParen ts h.1 h.0 h.2 (apart_from (is k.Quoted) k.LeftParen refl h.1 (shrinks (exact-quoted script) h.1 h.3.0 h.3.1 h.3.2).0)
 
+-- what an expression begins with
 abbrev pub expr_begins : Sort → Bool
 expr_begins a = is k.Name a || has func_of_two a || has func_of_one a || lit_begins a
 
+-- expr, nested no deeper than the number
 pub exact-expr_in : (script : List ℕ) (strict : Bool) (d : ℕ) → Exact false expr_begins after_expr (expr_in script strict d) (IsExprIn script strict d)
 unfolding expr_in IsExprIn calls_period same_sort
 exact-expr_in script strict zero = exact-loose exact-never refl refl
@@ -85,6 +88,7 @@ exact-expr_in script strict (suc d) =
     refl refl) refl refl) refl refl)
     refl refl
 
+-- expr
 pub exact-expr : (script : List ℕ) (strict : Bool) → Exact false expr_begins after_expr (expr script strict) (IsExpr script strict)
 unfolding expr IsExpr
 exact-expr script strict = record {

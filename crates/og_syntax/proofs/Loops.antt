@@ -14,6 +14,7 @@ use Rattle.og_syntax.proofs.Exact.{Exact, shrinks}
 abbrev pub Shrinking : {A : Type 0} → Reads A → Type 0
 Shrinking {A} q = (ts : List Lexeme) (x : A) (rest : List Lexeme) → q ts ≡ got x rest → length rest < length ts
 
+-- an exact reader of parts that are not empty takes lexemes
 pub shrinking : {A : Type 0} {f : Sort → Bool} {F : Sort → Bool → Bool} {q : Reads A} {Q : Rule A} → Exact false f F q Q → Shrinking q
 shrinking E ts x rest e = (shrinks E ts x rest (E.sound ts x rest e)).1
 
@@ -21,6 +22,7 @@ shrinking E ts x rest e = (shrinks E ts x rest (E.sound ts x rest e)).1
 abbrev turn : {A : Type 0} → (List Lexeme → Bool) → Reads A → ℕ → A → Reads (List A)
 turn h q n x = reading.bind (more_if_from h q n) (λ xs. reading.pure (x ∷ xs))
 
+-- counts of turns that do the same after a part do the same with it
 same_turn : {A : Type 0} (h : List Lexeme → Bool) (q : Reads A) (n m : ℕ) (r : Outcome A)
     → ((x : A) (rest : List Lexeme) → r ≡ got x rest → more_if_from h q n rest ≡ more_if_from h q m rest) → and_then r (turn h q n) ≡ and_then r (turn h q m)
 same_turn h q n m (Some x) e = ap (λ r. and_then r (λ xs. reading.pure (x.0 ∷ xs))) (e x.0 x.1 refl)
@@ -35,6 +37,7 @@ none_here h q no_part (suc n) (t ∷ ts) le = absurd (some_there (length ts) le)
     some_there : (n : ℕ) → suc n ≤ 0 → ⊥
     some_there n le = omega (arith, le)
 
+-- one turn less is enough after a part
 pub below : (a b n : ℕ) → a < b → b ≤ suc n → a ≤ n
 below a b n l m = omega (arith, l, m)
 
@@ -47,6 +50,7 @@ same_turns h q no_part s (suc n) (suc m) ts a b =
     ap (λ r. if h ts then r else got [] ts)
     (same_turn h q n m (q ts) (λ x rest e. same_turns h q no_part s n m rest (below (length rest) (length ts) n (s ts x rest e) a) (below (length rest) (length ts) m (s ts x rest e) b)))
 
+-- a part goes to the parts before it
 in_front : {A : Type 0} (front : List A) (x : A) (r : Outcome (List A)) → with_front (front ++ x ∷ []) r ≡ with_front front (and_then r (λ xs. reading.pure (x ∷ xs)))
 in_front front x (Some y) = ap (λ z. got z y.1) (append_assoc front (x ∷ []) y.0)
 in_front front x None = refl
@@ -93,6 +97,7 @@ pub record IsPart {A : Type 0} (h : List Lexeme → Bool) (q : Reads A) : Type 0
   pub none : h [] ≡ false
   pub smaller : Shrinking q
 
+-- an exact reader of parts that are not empty reads parts
 pub is_part : {A : Type 0} {f : Sort → Bool} {F : Sort → Bool → Bool} {q : Reads A} {Q : Rule A} (h : List Lexeme → Bool) → h [] ≡ false → Exact false f F q Q → IsPart h q
 is_part h none E = record { none = none; smaller = shrinking E }
 
@@ -117,16 +122,19 @@ not_read h q p front ts whole r.Syntax is before g = sym before ∙ part_fails h
 abbrev pub after_sort : Sort → List Lexeme → Bool
 after_sort sort ts = same_sort (sort_at ts) sort
 
+-- a turn takes a lexeme
 pub smaller_past : {A : Type 0} (sort : Sort) (q : Reads A) → IsPart (after_sort sort) (past sort q) → (ts next left : List Lexeme) (x : A)
     → same_sort (sort_at ts) sort ≡ true → next ≡ drop 1 ts → q next ≡ got x left → length left < length ts
 smaller_past sort q p ts next left x is e read = p.smaller ts x left (tok_then sort q ts is ∙ ap q (sym e) ∙ read)
 
+-- the invariant after one more part
 pub one_more_past : {A : Type 0} (sort : Sort) (q : Reads A) → IsPart (after_sort sort) (past sort q) → (front now : List A) (ts next left : List Lexeme) (x : A) (whole : Outcome (List A))
     → now ≡ front ++ x ∷ [] → same_sort (sort_at ts) sort ≡ true → next ≡ drop 1 ts → q next ≡ got x left → with_front front (more_if (after_sort sort) (past sort q) ts) ≡ whole
     → with_front now (more_if (after_sort sort) (past sort q) left) ≡ whole
 one_more_past sort q p front now ts next left x whole e is f read before =
     one_more (after_sort sort) (past sort q) p front now ts left x whole e is (tok_then sort q ts is ∙ ap q (sym f) ∙ read) before
 
+-- what is given where a part is not read
 pub not_read_past : {A : Type 0} (sort : Sort) (q : Reads A) → IsPart (after_sort sort) (past sort q) → (front : List A) (ts next : List Lexeme) (whole : Outcome (List A)) (why : Refusal)
     → same_sort (sort_at ts) sort ≡ true → next ≡ drop 1 ts → with_front front (more_if (after_sort sort) (past sort q) ts) ≡ whole
     → Gives {A = A} (Err why) (q next) → Gives {A = List A} (Err why) whole

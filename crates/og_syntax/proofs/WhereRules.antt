@@ -45,6 +45,7 @@ pub record Between (Neg : Rule CondText) (ts : List Lexeme) (x : CondText) (xs :
   pub others : Many (Past k.And Neg) first_end xs last_end
   pub then_and : Tok k.And last_end tt rest
 
+-- AND after each is AND between them, and AND after the last
 between : (Neg : Rule CondText) (ts : List Lexeme) (x : CondText) (xs : List CondText) (rest : List Lexeme) → Many (With Neg) ts (x ∷ xs) rest → Between Neg ts x xs rest
 between Neg ts x [] rest m =
     let n = m.1 in let s = n.3 in record {
@@ -65,11 +66,13 @@ between Neg ts x (y ∷ ys) rest m =
 
 -- ---- the end of WHERE
 
+-- what stands behind conditions with AND between them
 WhereEnd : List ℕ → Bool → Rule CondText → List CondText → Rule Where
 WhereEnd script strict Neg xs =
     rules_.Bind (Past k.And (IsSemis script strict)) (λ ss. rules_.pure (Some (all_of xs), ss))
     or rules_.Bind (Many (Past k.Or (IsConjOf Neg))) (λ ys. rules_.pure (Some (any_of (all_of xs ∷ ys)), []))
 
+-- the end of WHERE
 exact-where_end : (script : List ℕ) (strict : Bool) {neg : Reads CondText} {Neg : Rule CondText} → Exact false neg_begins after_expr neg Neg → (xs : List CondText)
     → Exact true (λ a. is k.And a || is k.Or a) after_cond (where_end script strict neg xs) (WhereEnd script strict Neg xs)
 unfolding where_end WhereEnd same_sort
@@ -194,9 +197,11 @@ wcond_complete script strict {neg} {Neg} E N ts w rest (inr h) after = go h.0 h.
         (and_ahead b.last_end h.1 b.then_and) (semi_after b.last_end h.1 b.then_and (semis_come script strict h.1 s.0 s.1 s.2)))
         ∙ (exact-where_end script strict E (x ∷ xs)).complete b.last_end w rest (inl (s.0, s.1, (tt, h.1, b.then_and, s.2), s.3)) after
 
+-- what stands after WHERE begins so
 abbrev pub where_begins : Sort → Bool
 where_begins a = neg_begins a || semi_begins a
 
+-- what stands after WHERE takes a lexeme
 wcond_lead : (script : List ℕ) (strict : Bool) {neg : Reads CondText} {Neg : Rule CondText} → Exact false neg_begins after_expr neg Neg
     → (ts : List Lexeme) (w : Where) (rest : List Lexeme) → IsWcondOf script strict Neg ts w rest
     → ((where_begins (sort_at ts) ≡ true) × (length rest < length ts)) ⊎ ((false ≡ true) × (rest ≡ ts))
@@ -221,6 +226,7 @@ wcond_lead script strict {neg} {Neg} E ts w rest (inr h) = go (bind_lead some (�
     go (inl a) = inl (begins (neg_begins (sort_at ts)) (is k.And (sort_at ts)) (semi_begins (sort_at ts)) a.0, a.1)
     go (inr a) = inr a
 
+-- wcond, of such negations
 pub exact-wcond_of : (script : List ℕ) (strict : Bool) {neg : Reads CondText} {Neg : Rule CondText} → Exact false neg_begins after_expr neg Neg → NoSemi Neg
     → Exact false where_begins after_cond (wcond_of script strict neg) (IsWcondOf script strict Neg)
 exact-wcond_of script strict E N = record {
@@ -231,6 +237,7 @@ exact-wcond_of script strict E N = record {
 
 -- ---- no negation begins with EXISTS or with NOT EXISTS
 
+-- neither EXISTS nor NOT EXISTS comes
 no_semi_by : (ts : List Lexeme) → same_sort (sort_at ts) k.Exists ≡ false → (sees k.Not ts && sees k.Exists (drop 1 ts)) ≡ false → begins_semi ts ≡ false
 unfolding begins_semi sees
 no_semi_by ts e f = neither _ _ e f
@@ -239,6 +246,7 @@ no_semi_by ts e f = neither _ _ e f
     neither true b e f = cc
     neither false b e f = f
 
+-- a negation begins with neither
 pub neg_no_semi : (script : List ℕ) (strict : Bool) (d : ℕ) → NoSemi (IsNegIn script strict d)
 unfolding IsNegIn same_sort
 neg_no_semi script strict zero ts x rest h = absurd h
@@ -249,6 +257,7 @@ neg_no_semi script strict (suc d) ts x rest (inr h) =
     no_semi_by ts (apart_from atom_begins k.Exists refl ts (shrinks (exact-atom_of script strict (exact-neg_in script strict d)) ts x rest h).0)
     (other_first k.Not k.Exists (exact-atom_of script strict (exact-neg_in script strict d)) refl ts x rest h)
 
+-- wcond
 pub exact-wcond : (script : List ℕ) (strict live : Bool) → Exact false where_begins after_cond (wcond script strict live) (IsWcond script strict live)
 unfolding wcond IsWcond same_sort
 exact-wcond script strict true = exact-loose (exact-map (exact-cond script strict) (λ x. (Some x, []))) refl refl
@@ -260,6 +269,7 @@ exact-wcond script strict false = record {
 
 -- ---- the parts of lists
 
+-- a part of the conditions before those of EXISTS
 pub and_neg_part : (script : List ℕ) (strict : Bool) (d : ℕ) → IsPart and_neg (past k.And (neg_in script strict d))
 unfolding and_neg sees same_sort
 and_neg_part script strict d = is_part and_neg refl (exact-after k.And refl (exact-neg_in script strict d))

@@ -13,6 +13,7 @@ use Rattle.og_syntax.specs.Reader.{goes_on}
 abbrev pub ahead : (Sort → Bool → Bool) → List Lexeme → Bool
 ahead follow ts = follow (sort_at ts) (sees k.Name (drop 1 ts))
 
+-- whatever comes
 abbrev pub anything : Sort → Bool → Bool
 anything a named = true
 
@@ -32,27 +33,35 @@ after_cond a named = after_conj a named && not (is k.Or a)
 abbrev pub after_alias : Sort → Bool → Bool
 after_alias a named = not (is k.Name a) && not (is k.As a && named)
 
+-- AS goes on with an item
 abbrev pub after_item : Sort → Bool → Bool
 after_item a named = after_expr a named && not (is k.As a)
 
+-- a comma goes on with the items
 abbrev pub after_items : Sort → Bool → Bool
 after_items a named = after_item a named && not (is k.Comma a)
 
+-- what goes on with an alias or with a condition goes on with a table
 abbrev pub after_table : Sort → Bool → Bool
 after_table a named = after_alias a named && after_cond a named
 
+-- a comma or JOIN goes on with the tables
 abbrev pub after_tables : Sort → Bool → Bool
 after_tables a named = after_table a named && not (goes_on a)
 
+-- WHERE goes on with a sub-select
 abbrev pub after_sub : Sort → Bool → Bool
 after_sub a named = after_table a named && not (is k.Where a)
 
+-- AND goes on with conditions of EXISTS
 abbrev pub after_semis : Sort → Bool → Bool
 after_semis a named = not (is k.And a)
 
+-- WHERE goes on with a core
 abbrev pub after_core : Sort → Bool → Bool
 after_core a named = after_tables a named && not (is k.Where a)
 
+-- an operator between cores goes on with a query
 abbrev pub after_query : Sort → Bool → Bool
 after_query a named = after_core a named && not (has (set_op_of false) a)
 

@@ -31,15 +31,19 @@ IsName script = do t ← One k.Name; Given (IsNameOf (spelling script t))
 unfoldable pub IsQuoted : List ℕ → Rule (List ℕ)
 IsQuoted script = do t ← One k.Quoted; pure (content script t)
 
+-- text, in UTF-8
 unfoldable pub IsText : List ℕ → Rule (List ℕ)
 IsText script = do z ← IsQuoted script; Given (IsTextOf z)
 
+-- DATE text, of a day text
 unfoldable pub IsDayLit : List ℕ → Bool → Rule Value
 IsDayLit script strict = do Tok k.Date; z ← IsQuoted script; Given (IsOfForm strict IsDayValue z)
 
+-- ONGOING text, of a point text
 unfoldable pub IsPointLit : List ℕ → Bool → Rule Value
 IsPointLit script strict = do Tok k.Ongoing; z ← IsQuoted script; Given (IsOfForm strict IsPointValue z)
 
+-- PERIOD text, of a period text
 unfoldable pub IsPeriodLit : List ℕ → Bool → Rule Value
 IsPeriodLit script strict = do Tok k.Period; z ← IsQuoted script; Given (IsOfForm strict IsPeriodValue z)
 
@@ -82,9 +86,11 @@ IsConjOf Neg = do xs ← Joined Neg (do Tok k.And; Neg); pure (all_of xs)
 unfoldable pub IsCondOf : Rule CondText → Rule CondText
 IsCondOf Neg = do xs ← Joined (IsConjOf Neg) (do Tok k.Or; IsConjOf Neg); pure (any_of xs)
 
+-- cmp expr, behind an expression
 unfoldable pub IsCompare : List ℕ → Bool → ExprText → Rule CondText
 IsCompare script strict x = do op ← Worded comparison_of; y ← IsExpr script strict; pure (c.Compare op x y)
 
+-- pred expr, behind an expression
 unfoldable pub IsRelate : List ℕ → Bool → ExprText → Rule CondText
 IsRelate script strict x = do pred ← Worded predicate_of; y ← IsExpr script strict; pure (c.Relate pred x y)
 
@@ -125,6 +131,7 @@ IsFitem script = do x ← IsName script; y ← IsAlias script; pure (x, y)
 unfoldable pub IsItem : List ℕ → Bool → Rule ItemText
 IsItem script strict = do x ← IsExpr script strict; y ← Optional (Past k.As (IsName script)); pure (item_of x y)
 
+-- item (, item)*
 unfoldable pub IsItemList : List ℕ → Bool → Rule (List ItemText)
 IsItemList script strict = Joined (IsItem script strict) (Past k.Comma (IsItem script strict))
 
@@ -132,9 +139,11 @@ IsItemList script strict = Joined (IsItem script strict) (Past k.Comma (IsItem s
 unfoldable pub IsItems : List ℕ → Bool → Rule ItemsText
 IsItems script strict = (do Tok k.Star; pure i.Star) or (do xs ← IsItemList script strict; pure (i.List xs))
 
+-- fitem, as a table without a condition
 unfoldable pub IsFirstTable : List ℕ → Rule FromText
 IsFirstTable script = do x ← IsFitem script; pure (table_of x None)
 
+-- JOIN fitem ON cond
 unfoldable pub IsJoinedTable : List ℕ → Bool → Rule FromText
 IsJoinedTable script strict = do Tok k.Join; x ← IsFitem script; Tok k.On; y ← IsCond script strict; pure (table_of x (Some y))
 
@@ -185,6 +194,7 @@ IsCore script strict live = do
   w ← Optional (Past k.Where (IsWcond script strict live))
   pure (core_of xs ts w)
 
+-- setop core
 unfoldable pub IsFurtherCore : List ℕ → Bool → Bool → Rule RestText
 IsFurtherCore script strict live = do op ← Worded (set_op_of live); x ← IsCore script strict live; pure (rest_of op x)
 

@@ -23,5 +23,6 @@ sees sort ts = same_sort (sort_at ts) sort
 abbrev pub lacks : (Sort → Bool) → List Lexeme → Bool
 lacks h ts = not (h (sort_at ts))
 
+-- the test for one sort
 abbrev pub is : Sort → Sort → Bool
 is sort a = same_sort a sort

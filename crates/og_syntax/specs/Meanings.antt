@@ -24,6 +24,7 @@ func_of_one k.Start = Some func.Start
 func_of_one k.End = Some func.End
 func_of_one _ = None
 
+-- comparisons of two expressions
 abbrev pub comparison_of : Sort → Option Cmp
 comparison_of k.Equal = Some cmp.Eq
 comparison_of k.NotEqual = Some cmp.Ne
@@ -33,6 +34,7 @@ comparison_of k.Greater = Some cmp.Gt
 comparison_of k.GreaterEqual = Some cmp.Ge
 comparison_of _ = None
 
+-- predicates on two expressions
 abbrev pub predicate_of : Sort → Option Pred
 predicate_of k.Before = Some pred.Before
 predicate_of k.Meets = Some pred.Meets

@@ -8,9 +8,11 @@ use Rattle.og_syntax.specs.declared.refusal.Refusal.{Refusal}
 use Rattle.og_syntax.specs.declared.refusal.Refusal.TheVariants as r
 use Rattle.og_syntax.specs.Lexemes.{same_sort, sort_at, sees}
 
+-- a value and the lexemes after it, or nothing
 abbrev pub Outcome : Type 0 → Type 0
 Outcome A = Option (A × List Lexeme)
 
+-- what reads a front of lexemes
 abbrev pub Reads : Type 0 → Type 0
 Reads A = List Lexeme → Outcome A
 
@@ -18,6 +20,7 @@ Reads A = List Lexeme → Outcome A
 abbrev pub got : {A : Type 0} → A → List Lexeme → Outcome A
 got x rest = Some (x, rest)
 
+-- with what was read, and the lexemes after it
 abbrev pub and_then : {A B : Type 0} → Outcome A → (A → Reads B) → Outcome B
 and_then (Some x) f = f x.0 x.1
 and_then None f = None
@@ -77,6 +80,7 @@ is_there None = false
 abbrev pub has : {A : Type 0} → (Sort → Option A) → Sort → Bool
 has table a = is_there (table a)
 
+-- the meaning of the first lexeme where it has one
 abbrev pub word_from : {A : Type 0} → Option A → Reads A
 word_from (Some x) = λ ts. got x (drop 1 ts)
 word_from None = refuse

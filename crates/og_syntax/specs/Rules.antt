@@ -4,6 +4,7 @@ use Rattle.og_syntax.specs.declared.lexeme.Sort.{Sort}
 use Rattle.og_syntax.specs.declared.lexeme.Sort.TheVariants as k
 use Rattle.og_syntax.specs.declared.lexeme.Lexeme.{Lexeme}
 
+-- a relation between lexemes, the value of a front of them, and the lexemes after it
 abbrev pub Rule : Type 0 → Type 1
 Rule A = List Lexeme → A → List Lexeme → Type 0
 

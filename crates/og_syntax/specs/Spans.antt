@@ -30,6 +30,7 @@ content script t = singled false (inside (spelling script t))
 abbrev pub IsNameOf : List ℕ → List ℕ → Type 0
 IsNameOf word x = (is_word word ≡ true) × (x ≡ folded word)
 
+-- the name of a word, where the bytes are one
 abbrev pub name_of : List ℕ → Option (List ℕ)
 name_of word = if is_word word then Some (folded word) else None
 
@@ -37,6 +38,7 @@ name_of word = if is_word word then Some (folded word) else None
 abbrev pub IsTextOf : List ℕ → List ℕ → Type 0
 IsTextOf bytes x = IsUtf8 bytes × (x ≡ bytes)
 
+-- the bytes, where they are in UTF-8
 abbrev pub text_of : List ℕ → Option (List ℕ)
 text_of bytes = if is_utf8 bytes then Some bytes else None
 
@@ -44,6 +46,7 @@ text_of bytes = if is_utf8 bytes then Some bytes else None
 abbrev pub IsDayValue : List ℕ → Value → Type 0
 IsDayValue text x = (n : ℤ) × IsDayText text n × (x ≡ v.Point (record { low = n; high = n }))
 
+-- the fixed point of a day
 abbrev pub day_value_from : Option ℤ → Option Value
 day_value_from (Some n) = Some (v.Point (record { low = n; high = n }))
 day_value_from None = None
@@ -52,6 +55,7 @@ day_value_from None = None
 abbrev pub IsPointValue : List ℕ → Value → Type 0
 IsPointValue text x = (p : Point) × IsPointText text p × (x ≡ v.Point p)
 
+-- a point as a value
 abbrev pub point_value_from : Option Point → Option Value
 point_value_from (Some p) = Some (v.Point p)
 point_value_from None = None
@@ -60,6 +64,7 @@ point_value_from None = None
 abbrev pub IsPeriodValue : List ℕ → Value → Type 0
 IsPeriodValue text x = (i : Period) × IsPeriodText text i × (x ≡ v.Period i)
 
+-- a period as a value
 abbrev pub period_value_from : Option Period → Option Value
 period_value_from (Some i) = Some (v.Period i)
 period_value_from None = None
@@ -69,6 +74,7 @@ abbrev pub IsOfForm : Bool → (List ℕ → Value → Type 0) → List ℕ → 
 IsOfForm true R text x = R text x
 IsOfForm false R text x = x ≡ v.Int (pos 0)
 
+-- the value of a text of its form, or the number where it need not be
 abbrev pub of_form : Bool → Option Value → Option Value
 of_form true value = value
 of_form false value = Some (v.Int (pos 0))

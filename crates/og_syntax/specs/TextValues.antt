@@ -19,6 +19,7 @@ search f n (suc count) = or_else (f n) (search f (n +ℤ pos 1) count)
 unfoldable pub search_days : {A : Type 0} → (ℤ → Option A) → Option A
 search_days f = search f before_all 7_304_486
 
+-- the answer for the point of two days, where the first is not after the second
 abbrev pub of_rising : {A : Type 0} → (Point → Option A) → ℤ → ℤ → Option A
 of_rising f low high = if int_le low high then f (record { low = low; high = high }) else None
 

@@ -1,4 +1,4 @@
-//! Statements as they are written, without parentheses and quotes (docs/LANGUAGE.md, "Statements").
+//! Statements as they are written, without parentheses and quotes.
 ghost use Rattle.std.specs.Prelude.{◌≡◌, IfOk};
 
 use og_base::{NoMemory, RefDay};
