@@ -31,7 +31,7 @@ pub fn condition<'a>(
 // Conjunctions with OR between them, whose negations are nested no deeper than the number.
 #[cycle(conditions)]
 #[tactic(auto, unfolding(crate::specs::Reader::cond_of))]
-pub fn condition_in<'a>(
+fn condition_in<'a>(
     alloc: Global,
     script: &[u8],
     strict: bool,

@@ -12,9 +12,9 @@ use og_value::{Name, NameRefusal, Text, TextRefusal};
 use sqlite_items::Items;
 use std::alloc::Global;
 
-// The bytes of the lexeme.
+/// The bytes of the lexeme.
 #[tactic(auto, unfolding(crate::specs::Spans::spelling))]
-fn spelling(script: &[u8], lexeme: Lexeme) -> &[u8]
+pub fn bytes_of(script: &[u8], lexeme: Lexeme) -> &[u8]
     ensures { result.now ≡ spans.spelling script.now lexeme }
 {
     let rest = after_bytes(script, lexeme.start);
@@ -46,7 +46,7 @@ fn front_bytes(bytes: &[u8], count: usize) -> &[u8]
 fn content(alloc: Global, script: &[u8], lexeme: Lexeme) -> Result<Vec<u8>, NoMemory>
     ensures { IfOk result (λ z. z.items ≡ spans.content script.now lexeme) }
 {
-    let bytes = spelling(script, lexeme);
+    let bytes = bytes_of(script, lexeme);
     let inside = front_bytes(after_bytes(bytes, 1), bytes.len().saturating_sub(2));
     singled(alloc, inside)
 }
@@ -78,7 +78,7 @@ pub fn name<'a>(
     ensures { Gives result (spec.name script.now lexemes.now) }
 {
     let (lexeme, rest) = one(lexemes, Sort::Name)?;
-    match Name::of(alloc, spelling(script, lexeme)) {
+    match Name::of(alloc, bytes_of(script, lexeme)) {
         Ok(name) => Ok((name, rest)),
         Err(NameRefusal::NotAName) => Err(Refusal::Syntax),
         Err(NameRefusal::NoMemory) => Err(Refusal::NoMemory),

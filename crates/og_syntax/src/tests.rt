@@ -62,12 +62,11 @@ fn names_are_kept_in_lower_case(rt: HostRuntime) -> Result<(), Fail> {
         lexeme(Sort::Name, 2, 5),
     ];
     let (value, _) = expression(rt.alloc(), b"T.Col", true, lexemes.as_slice())?;
-    let ExprText::Column {
-        table: Some(table),
-        name,
-    } = value
-    else {
-        return Err(Fail::new("no column of a table"));
+    let ExprText::Column { table, name } = value else {
+        return Err(Fail::new("no column"));
+    };
+    let Some(table) = table else {
+        return Err(Fail::new("no table"));
     };
     assert_eq!(rt; table.as_str(), "t");
     assert_eq!(rt; name.as_str(), "col");

@@ -1,0 +1,3 @@
+pub mod Lenient
+pub mod Scripts
+pub mod StatementRules

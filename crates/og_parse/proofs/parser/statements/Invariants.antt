@@ -1,0 +1,10 @@
+use Rattle.std.proofs.Common.{◌+◌, ◌≤◌, length}
+use Rattle.og_parse.specs.Script.{pieces}
+use Rattle.og_parse.proofs.Scripts.{Leads}
+use Rattle.og_parse.proofs.parser.statements.Given as goal
+
+abbrev pub invariant-pieces : goal.invariant-pieces
+invariant-pieces l = Leads l.script (pieces l.fn.lexemes) l.stmts l.number (pieces l.rest) × (l.number + length l.rest ≤ 1 + length l.fn.lexemes)
+
+abbrev pub decreases-pieces : goal.decreases-pieces
+decreases-pieces l = length l.rest

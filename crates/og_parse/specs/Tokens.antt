@@ -1,0 +1,112 @@
+-- The lexeme of each token of a script.
+use Rattle.std.specs.Prelude.{ℕ, ℤ, pos, List, [], ◌∷◌, map, codes, if◌then◌else◌}
+use Rattle.std.specs.Str.{str_eq_ignore_ascii_case}
+use Rattle.og_lex.specs.declared.symbol.Symbol.{Symbol}
+use Rattle.og_lex.specs.declared.symbol.Symbol.TheVariants as symbols
+use Rattle.og_lex.specs.declared.token.Token.{Token}
+use Rattle.og_lex.specs.declared.token.TokenKind.{TokenKind}
+use Rattle.og_lex.specs.declared.token.TokenKind.TheVariants as kinds
+use Rattle.og_syntax.specs.declared.lexeme.Sort.{Sort}
+use Rattle.og_syntax.specs.declared.lexeme.Sort.TheVariants as k
+use Rattle.og_syntax.specs.declared.lexeme.Lexeme.{Lexeme}
+use Rattle.og_syntax.specs.Spans.{spelling}
+
+-- the reserved words
+abbrev pub reserved : List (List ℕ × Sort)
+reserved =
+    (codes "and", k.And) ∷
+    (codes "as", k.As) ∷
+    (codes "before", k.Before) ∷
+    (codes "common", k.Common) ∷
+    (codes "contains", k.Contains) ∷
+    (codes "create", k.Create) ∷
+    (codes "date", k.Date) ∷
+    (codes "delete", k.Delete) ∷
+    (codes "drop", k.Drop) ∷
+    (codes "during", k.During) ∷
+    (codes "empty", k.Empty) ∷
+    (codes "end", k.End) ∷
+    (codes "equals", k.Equals) ∷
+    (codes "except", k.Except) ∷
+    (codes "exists", k.Exists) ∷
+    (codes "explain", k.Explain) ∷
+    (codes "finishes", k.Finishes) ∷
+    (codes "from", k.From) ∷
+    (codes "greatest", k.Greatest) ∷
+    (codes "import", k.Import) ∷
+    (codes "insert", k.Insert) ∷
+    (codes "int", k.Int) ∷
+    (codes "intersect", k.Intersect) ∷
+    (codes "into", k.Into) ∷
+    (codes "join", k.Join) ∷
+    (codes "keep", k.Keep) ∷
+    (codes "least", k.Least) ∷
+    (codes "live", k.Live) ∷
+    (codes "meets", k.Meets) ∷
+    (codes "not", k.Not) ∷
+    (codes "of", k.Of) ∷
+    (codes "on", k.On) ∷
+    (codes "ongoing", k.Ongoing) ∷
+    (codes "open", k.Open) ∷
+    (codes "or", k.Or) ∷
+    (codes "overlaps", k.Overlaps) ∷
+    (codes "period", k.Period) ∷
+    (codes "print", k.Print) ∷
+    (codes "save", k.Save) ∷
+    (codes "select", k.Select) ∷
+    (codes "set", k.Set) ∷
+    (codes "start", k.Start) ∷
+    (codes "starts", k.Starts) ∷
+    (codes "table", k.Table) ∷
+    (codes "tables", k.Tables) ∷
+    (codes "text", k.Text) ∷
+    (codes "to", k.To) ∷
+    (codes "union", k.Union) ∷
+    (codes "update", k.Update) ∷
+    (codes "valid", k.Valid) ∷
+    (codes "values", k.Values) ∷
+    (codes "where", k.Where) ∷
+    []
+
+-- the sort that a list gives the word, without regard to ASCII case, and a name where it gives none
+abbrev pub sort_in : List (List ℕ × Sort) → List ℕ → Sort
+sort_in [] word = k.Name
+sort_in (entry ∷ entries) word = if str_eq_ignore_ascii_case entry.0 word then entry.1 else sort_in entries word
+
+-- the sort of a word
+unfoldable pub sort_of_word : List ℕ → Sort
+sort_of_word = sort_in reserved
+
+-- the sort of a symbol
+abbrev pub sort_of_symbol : Symbol → Sort
+sort_of_symbol symbols.LeftParen = k.LeftParen
+sort_of_symbol symbols.RightParen = k.RightParen
+sort_of_symbol symbols.Comma = k.Comma
+sort_of_symbol symbols.Semicolon = k.Semicolon
+sort_of_symbol symbols.Dot = k.Dot
+sort_of_symbol symbols.Star = k.Star
+sort_of_symbol symbols.Equal = k.Equal
+sort_of_symbol symbols.NotEqual = k.NotEqual
+sort_of_symbol symbols.LessEqual = k.LessEqual
+sort_of_symbol symbols.GreaterEqual = k.GreaterEqual
+sort_of_symbol symbols.Less = k.Less
+sort_of_symbol symbols.Greater = k.Greater
+
+-- a lexeme at the place of the token
+abbrev pub at_token : Token → Sort → ℤ → Lexeme
+at_token token sort number = record { sort = sort; number = number; start = token.start; end = token.end }
+
+-- the lexeme of a token of that kind: a number keeps its value
+abbrev pub lexeme_by : List ℕ → Token → TokenKind → Lexeme
+lexeme_by script token kinds.Word = at_token token (sort_of_word (spelling script (at_token token k.Name (pos 0)))) (pos 0)
+lexeme_by script token (kinds.Number n) = at_token token k.Number n
+lexeme_by script token kinds.Text = at_token token k.Quoted (pos 0)
+lexeme_by script token (kinds.Sym symbol) = at_token token (sort_of_symbol symbol) (pos 0)
+
+-- the lexeme of a token
+unfoldable pub lexeme_of : List ℕ → Token → Lexeme
+lexeme_of script token = lexeme_by script token token.kind
+
+-- the lexemes of the tokens of a script
+abbrev pub lexemes_of : List ℕ → List Token → List Lexeme
+lexemes_of script tokens = map (lexeme_of script) tokens

@@ -1,0 +1,77 @@
+//! Pieces, each a statement or none.
+ghost use Rattle.std.specs.Prelude.{◌≡◌, ◌≤◌, length, true, false, IfOk, IfErr};
+ghost use Rattle.og_parse.specs.Pieces as spec;
+ghost use Rattle.og_parse.specs.Whole.{GivesAll};
+ghost use Rattle.og_parse.specs.Script.{IsGood, IsNone, HasFault, OrNoMemory};
+ghost use Rattle.og_parse.specs.Depth.{is_too_deep};
+ghost use Rattle.og_parse.specs.StatementReader.{whole};
+
+use crate::depth::is_too_deep;
+use crate::refusal::ParseRefusal;
+use crate::statement::statement;
+use og_syntax::{Lexeme, Refusal, Sort, Stmt, same_sort};
+use std::alloc::Global;
+
+// The number of lexemes up to the first semicolon, or of all.
+pub fn piece_len(lexemes: &[Lexeme]) -> usize
+    ensures value { result ≡ spec.piece_len lexemes.now }
+    ensures within { result ≤ length lexemes.now }
+{
+    let mut len = 0;
+    'each: for lexeme in lexemes {
+        len += 1;
+        if same_sort(lexeme.sort, Sort::Semicolon) {
+            return len;
+        }
+    }
+    len
+}
+
+// The statement of a piece, or its fault with the number of the statement.
+pub fn read_piece(
+    alloc: Global,
+    script: &[u8],
+    piece: &[Lexeme],
+    number: usize,
+) -> Result<Stmt, ParseRefusal>
+    ensures good { IfOk result (IsGood script.now piece.now) }
+    ensures fault { IfErr result (OrNoMemory (HasFault script.now number piece.now)) }
+{
+    if is_too_deep(piece) {
+        return Err(ParseRefusal::TooDeep { statement: number });
+    }
+    match whole(alloc, script, true, piece) {
+        Ok(stmt) => Ok(stmt),
+        Err(Refusal::Syntax) => Err(fault_of(alloc, script, piece, number)),
+        Err(Refusal::NoMemory) => Err(ParseRefusal::NoMemory),
+    }
+}
+
+// The fault of a piece that is not too deep and no statement by strict reading.
+fn fault_of(alloc: Global, script: &[u8], piece: &[Lexeme], number: usize) -> ParseRefusal
+    requires flat { is_too_deep piece.now ≡ false }
+    requires none { IsNone script.now true piece.now }
+    ensures { OrNoMemory (HasFault script.now number piece.now) result }
+{
+    match whole(alloc, script, false, piece) {
+        Ok(stmt) => {
+            drop(stmt);
+            ParseRefusal::Literal { statement: number }
+        }
+        Err(Refusal::Syntax) => ParseRefusal::Syntax { statement: number },
+        Err(Refusal::NoMemory) => ParseRefusal::NoMemory,
+    }
+}
+
+// The statement that all of the lexemes are.
+#[tactic(auto, unfolding(crate::specs::StatementReader::whole))]
+fn whole(alloc: Global, script: &[u8], strict: bool, piece: &[Lexeme]) -> Result<Stmt, Refusal>
+    ensures { GivesAll result (whole script.now strict piece.now) }
+{
+    let (stmt, rest) = statement(alloc, script, strict, piece)?;
+    if rest.is_empty() {
+        return Ok(stmt);
+    }
+    drop(stmt);
+    Err(Refusal::Syntax)
+}
