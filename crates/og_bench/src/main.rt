@@ -1,7 +1,9 @@
-//! og_bench: what sets of days and relations cost, against a plain copy and a plain sort.
+//! og_bench: what sets of days, relations and scripts cost, against a plain copy, a plain sort and a
+//! plain pass.
 #![tactic(auto)]
 
 mod relations;
+mod scripts;
 mod sets;
 
 use og_base::NoMemory;
@@ -15,6 +17,7 @@ use std::process::ExitCode;
 enum Stop {
     NoMemory,
     Device,
+    Script,
 }
 
 impl From<NoMemory> for Stop {
@@ -51,6 +54,7 @@ fn main(rt: HostRuntime) -> ExitCode {
         let line = match subject.as_str() {
             "sets" => sets::line(&rt, rt.alloc(), count),
             "relations" => relations::line(&rt, rt.alloc(), count),
+            "scripts" => scripts::line(&rt, rt.alloc(), count),
             _ => return ExitCode::from(2),
         };
         let Ok(()) = print(&rt, line) else {
