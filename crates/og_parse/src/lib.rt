@@ -24,6 +24,3 @@ pub use og_syntax::{
 };
 pub use parser::parse;
 pub use refusal::ParseRefusal;
-
-#[cfg(test)]
-mod tests;
