@@ -7,20 +7,29 @@ use Rattle.std.proofs.lemmas.Slice.Eq.{bytes_eq-Decides}
 use Rattle.og_base.specs.Told.{IsPrefix, AppendsFront}
 use Rattle.og_io.specs.declared.sink.PutRefusal.{PutRefusal}
 use Rattle.og_io.specs.declared.sink.PutRefusal.TheVariants as puts
+use Rattle.og_lex.specs.Faults as lexer
+use Rattle.og_lex.specs.Grammar.{IsLexed}
+use Rattle.og_lex.specs.declared.refusal.LexRefusal.{LexRefusal}
+use Rattle.og_lex.specs.declared.refusal.LexRefusal.TheVariants as lexes
+use Rattle.og_lex.specs.declared.token.Token.{Token}
+use Rattle.og_parse.specs.Script as parser
+use Rattle.og_parse.specs.declared.refusal.ParseRefusal.{ParseRefusal}
+use Rattle.og_parse.specs.declared.refusal.ParseRefusal.TheVariants as parses
+use Rattle.og_syntax.specs.declared.tree.Stmt.{Stmt}
 use Rattle.og_session.specs.Statements.{Statement}
-use Rattle.og_session.specs.Script.{pieces_of, IsScript, IsFault}
-use Rattle.og_session.specs.Output.{IsRun, IsDefinedRun, no_statement, all_run, output_from, source_limit}
+use Rattle.og_session.specs.Script.{IsBuilt, IsFault}
+use Rattle.og_session.specs.Output.{IsRun, IsCommand, AreTrees, IsDefinedRun, no_tokens, no_tree, not_built, all_run, output_from}
 use Rattle.og_session.specs.Ends.{EndsUnreported, Ends, IsFront, fault_line, fault_status, status_of}
 use Rattle.og_session.specs.Headline.{IsAnswer, HasStatus, HasOutput}
 use Rattle.og_session.specs.declared.fault.Fault.{Fault}
 use Rattle.og_session.specs.declared.fault.Fault.TheVariants as faults
 use Rattle.og_session.specs.declared.fault.Stop.TheVariants as stops
 use Rattle.std.proofs.lemmas.List.{append-nil}
-use Rattle.og_session.specs.Stops.{stop_of_put, stop_of_script}
+use Rattle.og_session.specs.Stops.{stop_of_put, stop_of_lex, stop_of_parse, stop_of_script}
 use Rattle.og_session.specs.declared.fault.Stop.{Stop}
 use Rattle.og_session.specs.declared.script.ScriptRefusal.{ScriptRefusal}
 use Rattle.og_session.specs.declared.script.ScriptRefusal.TheVariants as scripts
-use Rattle.og_session.proofs.OneRun.{one_run}
+use Rattle.og_session.proofs.OneRun.{IsOneRun}
 
 -- one word alone
 pub one_word : (words : List (List ℕ)) (word : List ℕ) (b : Bool) → length words ≡ 1 → word ≡ get_or words 0 [] → b ≡ bytes_eq word (codes "run") → IsTrue b ↔ IsRun words
@@ -36,23 +45,40 @@ front_none : (words : List (List ℕ)) (source : List ℕ) → IsFront words sou
 front_none words source output status d = (output, refl)
 
 -- a front of the output that a run has
-pub front_of : (words : List (List ℕ)) (source front whole : List ℕ) (end : ℕ) → IsDefinedRun words source whole end → IsPrefix front whole → IsFront words source front
-front_of words source front whole end d h output status e = subst (IsPrefix front) (one_run words source whole output end status d e).0 h
+pub front_of : IsOneRun → (words : List (List ℕ)) (source front whole : List ℕ) (end : ℕ) → IsDefinedRun words source whole end → IsPrefix front whole → IsFront words source front
+front_of one words source front whole end d h output status e = subst (IsPrefix front) (one words source whole output end status d e).0 h
 
--- a script that was not read
-pub script_stopped : (words : List (List ℕ)) (source : List ℕ) (refusal : ScriptRefusal) → IsRun words → length source ≤ source_limit → ((n : ℕ) → refusal ≡ scripts.Syntax n → IsFault (pieces_of source) n) → EndsUnreported words source [] (Err (stop_of_script refusal))
-script_stopped words source (scripts.Syntax n) run small fault = (refl, no_statement run small n (fault n refl) refl refl)
-script_stopped words source scripts.NoMemory run small fault = front_none words source
+-- a source without tokens
+pub lex_stopped : (words : List (List ℕ)) (source : List ℕ) (refusal : LexRefusal) → IsCommand words source → lexer.IsRefusal source refusal → EndsUnreported words source [] (Err (stop_of_lex refusal))
+lex_stopped words source (lexes.BadByte n) command fault = (refl, no_tokens command (lexes.BadByte n) fault refl refl)
+lex_stopped words source (lexes.OpenText n) command fault = (refl, no_tokens command (lexes.OpenText n) fault refl refl)
+lex_stopped words source (lexes.NumberRange n) command fault = (refl, no_tokens command (lexes.NumberRange n) fault refl refl)
+lex_stopped words source lexes.NoMemory command fault = front_none words source
+
+-- tokens without a tree
+pub parse_stopped : (words : List (List ℕ)) (source : List ℕ) (tokens : List Token) (refusal : ParseRefusal) → IsCommand words source → IsLexed source tokens → parser.OrNoMemory (parser.IsFirstFault source tokens) refusal → EndsUnreported words source [] (Err (stop_of_parse refusal))
+parse_stopped words source tokens (parses.Syntax n) command lexed fault = (refl, no_tree command (parses.Syntax n) (tokens, lexed, fault) refl refl)
+parse_stopped words source tokens (parses.TooDeep n) command lexed fault = (refl, no_tree command (parses.TooDeep n) (tokens, lexed, fault) refl refl)
+parse_stopped words source tokens (parses.Literal n) command lexed fault = (refl, no_tree command (parses.Literal n) (tokens, lexed, fault) refl refl)
+parse_stopped words source tokens parses.NoMemory command lexed fault = front_none words source
+
+-- trees that do not run
+pub script_stopped : (words : List (List ℕ)) (source : List ℕ) (stmts : List Stmt) (refusal : ScriptRefusal) → IsCommand words source → AreTrees source stmts → ((n : ℕ) → refusal ≡ scripts.Syntax n → IsFault stmts n) → EndsUnreported words source [] (Err (stop_of_script refusal))
+script_stopped words source stmts (scripts.Syntax n) command trees fault = (refl, not_built command stmts trees n (fault n refl) refl refl)
+script_stopped words source stmts scripts.NoMemory command trees fault = front_none words source
 
 -- a script that was run
-pub script_ran : (words : List (List ℕ)) (source text : List ℕ) (ss : List Statement) → IsRun words → length source ≤ source_limit → IsScript (pieces_of source) ss → text ≡ output_from [] ss → IsDefinedRun words source text 0
-script_ran words source text ss run small script e = all_run run small ss script e refl
+pub script_ran : (words : List (List ℕ)) (source : List ℕ) (stmts : List Stmt) (ss : List Statement) → IsCommand words source → AreTrees source stmts → IsBuilt stmts ss → IsDefinedRun words source (output_from [] ss) 0
+script_ran words source stmts ss command trees built = all_run command stmts trees ss built refl refl
 
 -- a script that was run until the sink refused a piece
-pub script_cut : (words : List (List ℕ)) (source : List ℕ) (ss : List Statement) (old new : Option (List ℕ)) (refusal : PutRefusal) → IsRun words → length source ≤ source_limit → IsScript (pieces_of source) ss → AppendsFront old new (output_from [] ss)
+pub script_cut : IsOneRun → (words : List (List ℕ)) (source : List ℕ) (stmts : List Stmt) (ss : List Statement) (old new : Option (List ℕ)) (refusal : PutRefusal) → IsCommand words source → AreTrees source stmts → IsBuilt stmts ss → AppendsFront old new (output_from [] ss)
     → (text : List ℕ) × Appends old new text × EndsUnreported words source text (Err (stop_of_put refusal))
-script_cut words source ss old new puts.Failed run small script (front, prefix, appended) = (front, appended, front_of words source front (output_from [] ss) 0 (script_ran words source (output_from [] ss) ss run small script refl) prefix)
-script_cut words source ss old new puts.NoMemory run small script (front, prefix, appended) = (front, appended, front_of words source front (output_from [] ss) 0 (script_ran words source (output_from [] ss) ss run small script refl) prefix)
+script_cut one words source stmts ss old new refusal command trees built (front, prefix, appended) = (front, appended, by refusal)
+  where
+    by : (r : PutRefusal) → EndsUnreported words source front (Err (stop_of_put r))
+    by puts.Failed = front_of one words source front (output_from [] ss) 0 (script_ran words source stmts ss command trees built) prefix
+    by puts.NoMemory = front_of one words source front (output_from [] ss) 0 (script_ran words source stmts ss command trees built) prefix
 
 -- what was told of other bytes that are the same
 pub ends_of : (words : List (List ℕ)) (bytes source : List ℕ) (old new : Option (List ℕ)) (result : Result (Unit {0}) Stop) → bytes ≡ source
@@ -79,18 +105,18 @@ ends_reported words source old mid new fault (text, appended, (none, defined)) l
 )
 
 -- a front of the line of a fault was written
-pub ends_unsaid : (words : List (List ℕ)) (source : List ℕ) (old mid new : Option (List ℕ)) (fault : Fault) (refusal : PutRefusal)
+pub ends_unsaid : IsOneRun → (words : List (List ℕ)) (source : List ℕ) (old mid new : Option (List ℕ)) (fault : Fault) (refusal : PutRefusal)
     → (text : List ℕ) × Appends old mid text × EndsUnreported words source text (Err (stops.Fault fault)) → AppendsFront mid new (fault_line fault)
     → (text : List ℕ) × Appends old new text × Ends words source text (Err (stop_of_put refusal))
-ends_unsaid words source old mid new fault refusal (text, appended, (none, defined)) (front, prefix, line) = (
+ends_unsaid one words source old mid new fault refusal (text, appended, (none, defined)) (front, prefix, line) = (
   front,
   subst (λ l. Appends old new (l ++ front)) none (Appends-trans old mid new text front appended line),
   by refusal,
 )
   where
     by : (r : PutRefusal) → Ends words source front (Err (stop_of_put r))
-    by puts.Failed = front_of words source front (fault_line fault) (fault_status fault) defined prefix
-    by puts.NoMemory = front_of words source front (fault_line fault) (fault_status fault) defined prefix
+    by puts.Failed = front_of one words source front (fault_line fault) (fault_status fault) defined prefix
+    by puts.NoMemory = front_of one words source front (fault_line fault) (fault_status fault) defined prefix
 
 -- ---- the clauses of the headline, from how the run ends
 
@@ -105,25 +131,37 @@ pub is_answer : (end : Result (Unit {0}) Stop) → IsAnswer (status_of end)
 is_answer (Ok done) = (0, omega arith, refl)
 is_answer (Err (stops.Fault faults.Words)) = (1, omega arith, refl)
 is_answer (Err (stops.Fault faults.SourceTooLong)) = (2, omega arith, refl)
+is_answer (Err (stops.Fault (faults.BadByte n))) = (2, omega arith, refl)
+is_answer (Err (stops.Fault (faults.OpenText n))) = (2, omega arith, refl)
+is_answer (Err (stops.Fault (faults.NumberRange n))) = (2, omega arith, refl)
 is_answer (Err (stops.Fault (faults.Syntax n))) = (2, omega arith, refl)
+is_answer (Err (stops.Fault (faults.TooDeep n))) = (2, omega arith, refl)
+is_answer (Err (stops.Fault (faults.Literal n))) = (2, omega arith, refl)
 is_answer (Err stops.ReadFault) = (3, omega arith, refl)
 is_answer (Err stops.WriteFault) = (4, omega arith, refl)
 is_answer (Err stops.NoMemory) = (5, omega arith, refl)
 
+-- no fault has the status of a failed source
 fault_read : {A : Type 0} (fault : Fault) → fault_status fault ≡ 6 → A
 fault_read faults.Words e = absurd (omega (arith, e))
 fault_read faults.SourceTooLong e = absurd (omega (arith, e))
+fault_read (faults.BadByte n) e = absurd (omega (arith, e))
+fault_read (faults.OpenText n) e = absurd (omega (arith, e))
+fault_read (faults.NumberRange n) e = absurd (omega (arith, e))
 fault_read (faults.Syntax n) e = absurd (omega (arith, e))
+fault_read (faults.TooDeep n) e = absurd (omega (arith, e))
+fault_read (faults.Literal n) e = absurd (omega (arith, e))
 
-whole_front : (words : List (List ℕ)) (source text : List ℕ) (status : ℕ) → IsDefinedRun words source text status → IsFront words source text
-whole_front words source text status d = front_of words source text text status d ([], sym (append-nil text))
+-- what was written is a front of the output where it is all of it
+whole_front : IsOneRun → (words : List (List ℕ)) (source text : List ℕ) (status : ℕ) → IsDefinedRun words source text status → IsFront words source text
+whole_front one words source text status d = front_of one words source text text status d ([], sym (append-nil text))
 
-pub has_output : (words : List (List ℕ)) (source text : List ℕ) (end : Result (Unit {0}) Stop) → Ends words source text end → HasOutput words source text (status_of end)
-has_output words source text (Ok done) h = record { front = whole_front words source text 0 h; whole = inr h; unread = λ e. absurd (omega (arith, e)) }
-has_output words source text (Err (stops.Fault fault)) h = record { front = whole_front words source text (fault_status fault) h; whole = inr h; unread = λ e. fault_read fault e }
-has_output words source text (Err stops.ReadFault) h = record { front = subst (IsFront words source) (sym h) (front_none words source); whole = inl (inl refl); unread = λ e. h }
-has_output words source text (Err stops.WriteFault) h = record { front = h; whole = inl (inr (inl refl)); unread = λ e. absurd (omega (arith, e)) }
-has_output words source text (Err stops.NoMemory) h = record { front = h; whole = inl (inr (inr refl)); unread = λ e. absurd (omega (arith, e)) }
+pub has_output : IsOneRun → (words : List (List ℕ)) (source text : List ℕ) (end : Result (Unit {0}) Stop) → Ends words source text end → HasOutput words source text (status_of end)
+has_output one words source text (Ok done) h = record { front = whole_front one words source text 0 h; whole = inr h; unread = λ e. absurd (omega (arith, e)) }
+has_output one words source text (Err (stops.Fault fault)) h = record { front = whole_front one words source text (fault_status fault) h; whole = inr h; unread = λ e. fault_read fault e }
+has_output one words source text (Err stops.ReadFault) h = record { front = subst (IsFront words source) (sym h) (front_none words source); whole = inl (inl refl); unread = λ e. h }
+has_output one words source text (Err stops.WriteFault) h = record { front = h; whole = inl (inr (inl refl)); unread = λ e. absurd (omega (arith, e)) }
+has_output one words source text (Err stops.NoMemory) h = record { front = h; whole = inl (inr (inr refl)); unread = λ e. absurd (omega (arith, e)) }
 
 pub is_complete : (words : List (List ℕ)) (source text : List ℕ) (end : Result (Unit {0}) Stop) → Ends words source text end → (end ≡ Err stops.ReadFault → ⊥) → (end ≡ Err stops.WriteFault → ⊥)
     → (status_of end ≡ 9) ⊎ ((output : List ℕ) × IsDefinedRun words source output (status_of end))

@@ -1,9 +1,6 @@
+pub mod BuiltLemmas
+pub mod EndLemmas
 pub mod LayoutLemmas
-pub mod LaterLemmas
 pub mod OneRun
-pub mod PieceLemmas
-pub mod ScriptLemmas
-pub mod StatementTexts
 pub mod RunLemmas
 pub mod WorldLemmas
-pub mod EndLemmas

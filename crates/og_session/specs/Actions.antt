@@ -7,7 +7,7 @@ use Rattle.og_session.specs.declared.action.Action.TheVariants as actions
 
 -- the statement that does it to the table of that name
 abbrev pub said : List ℕ → Action → Statement
-said name (actions.Insert point) = Insert name point
+said name (actions.Insert points) = Insert name points.items
 said name (actions.Print day) = Print name day
 
 -- the statements of a table that is made, and then of what is done with it

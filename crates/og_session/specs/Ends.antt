@@ -1,23 +1,29 @@
 -- How the code's run ends.
 use Rattle.std.specs.Prelude.{◌≡◌, ℕ, List, [], Result, Ok, Err}
 use Rattle.og_base.specs.Told.{IsPrefix}
-use Rattle.og_session.specs.Output.{IsDefinedRun, words_line, too_long_line, syntax_line}
+use Rattle.og_lex.specs.declared.refusal.LexRefusal.TheVariants as lexes
+use Rattle.og_parse.specs.declared.refusal.ParseRefusal.TheVariants as parses
+use Rattle.og_session.specs.Output.{IsDefinedRun, words_line, too_long_line, lex_line, parse_line}
 use Rattle.og_session.specs.declared.fault.Fault.{Fault}
-use Rattle.og_session.specs.declared.fault.Fault.TheVariants.{Words, SourceTooLong, Syntax}
+use Rattle.og_session.specs.declared.fault.Fault.TheVariants as faults
 use Rattle.og_session.specs.declared.fault.Stop.{Stop}
 use Rattle.og_session.specs.declared.fault.Stop.TheVariants as stops
 
 -- the line of a fault
 abbrev pub fault_line : Fault → List ℕ
-fault_line Words = words_line
-fault_line SourceTooLong = too_long_line
-fault_line (Syntax statement) = syntax_line statement
+fault_line faults.Words = words_line
+fault_line faults.SourceTooLong = too_long_line
+fault_line (faults.BadByte offset) = lex_line (lexes.BadByte offset)
+fault_line (faults.OpenText offset) = lex_line (lexes.OpenText offset)
+fault_line (faults.NumberRange offset) = lex_line (lexes.NumberRange offset)
+fault_line (faults.Syntax statement) = parse_line (parses.Syntax statement)
+fault_line (faults.TooDeep statement) = parse_line (parses.TooDeep statement)
+fault_line (faults.Literal statement) = parse_line (parses.Literal statement)
 
 -- the status of a fault
 abbrev pub fault_status : Fault → ℕ
-fault_status Words = 2
-fault_status SourceTooLong = 3
-fault_status (Syntax statement) = 3
+fault_status faults.Words = 2
+fault_status _ = 3
 
 -- the status of a run's end
 abbrev pub status_of : Result (Unit {0}) Stop → ℕ

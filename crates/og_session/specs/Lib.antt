@@ -1,7 +1,6 @@
 pub mod Actions
 pub mod Ends
 pub mod Headline
-pub mod Names
 pub mod Output
 pub mod Reading
 pub mod Records

@@ -1,73 +1,51 @@
--- A script: how its bytes are cut into pieces, and which pieces are statements.
-use Rattle.std.specs.Prelude.{◌≡◌, ◌==◌, ◌||◌, ◌+◌, ◌++◌, ℕ, Bool, not, List, [], ◌∷◌, length, filter, map, ⊤, if◌then◌else◌}
-use Rattle.og_session.specs.Statements.{Statement, Create, Insert, Print, Says}
-
--- a byte at the front of the first piece
-abbrev pub onto : ℕ → List (List ℕ) → List (List ℕ)
-onto b [] = (b ∷ []) ∷ []
-onto b (piece ∷ pieces) = (b ∷ piece) ∷ pieces
-
--- the bytes cut after each semicolon; the last piece is what stands after the last of them
-abbrev pub cut : List ℕ → List (List ℕ)
-cut [] = [] ∷ []
-cut (b ∷ bs) = if b == 59 then (b ∷ []) ∷ cut bs else onto b (cut bs)
-
--- a space or a line feed
-abbrev pub is_blank : ℕ → Bool
-is_blank b = (b == 32) || (b == 10)
-
--- without the blanks at the front
-abbrev pub trimmed : List ℕ → List ℕ
-trimmed [] = []
-trimmed (b ∷ bs) = if is_blank b then trimmed bs else b ∷ bs
-
--- the pieces without the blanks at their front; a last piece of blanks alone is none
-abbrev pub pieces_of : List ℕ → List (List ℕ)
-pieces_of source = filter (λ piece. not (length piece == 0)) (map trimmed (cut source))
+-- Which trees run as a script of one table.
+use Rattle.std.specs.Prelude.{◌≡◌, ◌+◌, ◌++◌, ℕ, List, [], ◌∷◌, length, map, ⊤}
+use Rattle.og_syntax.specs.declared.tree.Stmt.{Stmt}
+use Rattle.og_session.specs.Statements.{Statement, Create, Insert, Print, stmt_of}
 
 -- an INSERT into the table, or a PRINT of it
 abbrev pub IsLater : List ℕ → Statement → Type 0
 IsLater table (Create name column) = ⊥
-IsLater table (Insert name point) = name ≡ table
+IsLater table (Insert name points) = name ≡ table
 IsLater table (Print name day) = name ≡ table
 
--- each piece says its statement, and each statement is a later one
-abbrev pub SayLater : List ℕ → List (List ℕ) → List Statement → Type 0
-SayLater table [] [] = ⊤
-SayLater table (piece ∷ pieces) (s ∷ ss) = Says piece s × IsLater table s × SayLater table pieces ss
-SayLater table [] (s ∷ ss) = ⊥
-SayLater table (piece ∷ pieces) [] = ⊥
+-- each of the statements is one of these
+abbrev pub AreLater : List ℕ → List Statement → Type 0
+AreLater table [] = ⊤
+AreLater table (s ∷ ss) = IsLater table s × AreLater table ss
 
--- pieces that are a script: none, or a CREATE and then statements on its table
-abbrev pub IsScript : List (List ℕ) → List Statement → Type 0
-IsScript [] [] = ⊤
-IsScript (piece ∷ pieces) (Create name column ∷ ss) =
-    Says piece (Create name column) × SayLater name pieces ss
-IsScript (piece ∷ pieces) (Insert name point ∷ ss) = ⊥
-IsScript (piece ∷ pieces) (Print name day ∷ ss) = ⊥
-IsScript [] (s ∷ ss) = ⊥
-IsScript (piece ∷ pieces) [] = ⊥
+-- a script of one table: no statement, or a CREATE and then statements on its table
+abbrev pub IsOneTable : List Statement → Type 0
+IsOneTable [] = ⊤
+IsOneTable (Create name column ∷ ss) = AreLater name ss
+IsOneTable (Insert name points ∷ ss) = ⊥
+IsOneTable (Print name day ∷ ss) = ⊥
 
--- the pieces are those of some script
-abbrev pub AreScript : List (List ℕ) → Type 0
-AreScript pieces = (ss : List Statement) × IsScript pieces ss
+-- the trees are those of the statements, which are a script of one table
+pub record IsBuilt (stmts : List Stmt) (ss : List Statement) : Type 0 where
+  pub trees : stmts ≡ map stmt_of ss
+  pub table : IsOneTable ss
 
--- the first piece that breaks a rule: those before it are a script, and with it they are none
-pub record IsFault (pieces : List (List ℕ)) (number : ℕ) : Type 0 where
-  pub before : List (List ℕ)
-  pub piece : List ℕ
-  pub after : List (List ℕ)
-  pub parts : pieces ≡ before ++ piece ∷ after
+-- the trees are those of some script of one table
+abbrev pub AreBuilt : List Stmt → Type 0
+AreBuilt stmts = (ss : List Statement) × IsBuilt stmts ss
+
+-- the first tree that does not run: those before it do, and with it they do not
+pub record IsFault (stmts : List Stmt) (number : ℕ) : Type 0 where
+  pub before : List Stmt
+  pub stmt : Stmt
+  pub after : List Stmt
+  pub parts : stmts ≡ before ++ stmt ∷ after
   pub place : number ≡ length before + 1
-  pub good : AreScript before
-  pub bad : ¬ AreScript (before ++ piece ∷ [])
+  pub good : AreBuilt before
+  pub bad : ¬ AreBuilt (before ++ stmt ∷ [])
 
--- the first piece after a CREATE that breaks a rule: those before it say later statements, and it says none
-pub record IsLaterFault (table : List ℕ) (pieces : List (List ℕ)) (number : ℕ) : Type 0 where
-  pub before : List (List ℕ)
-  pub piece : List ℕ
-  pub after : List (List ℕ)
-  pub parts : pieces ≡ before ++ piece ∷ after
+-- the first tree after a CREATE that does not run: those before it are of later statements, and it is of none
+pub record IsLaterFault (table : List ℕ) (stmts : List Stmt) (number : ℕ) : Type 0 where
+  pub before : List Statement
+  pub stmt : Stmt
+  pub after : List Stmt
+  pub parts : stmts ≡ map stmt_of before ++ stmt ∷ after
   pub place : number ≡ length before + 2
-  pub good : (ss : List Statement) × SayLater table before ss
-  pub bad : (s : Statement) → IsLater table s → ¬ Says piece s
+  pub good : AreLater table before
+  pub bad : (s : Statement) → IsLater table s → stmt ≡ stmt_of s → ⊥

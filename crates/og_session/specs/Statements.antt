@@ -1,32 +1,29 @@
--- The statements, and the bytes that say them.
-use Rattle.std.specs.Prelude.{◌≡◌, ◌++◌, ℕ, ℤ, List, IsTrue, codes}
-use Rattle.og_base.specs.Calendar.{IsRefDayText}
-use Rattle.og_time.specs.Point.{Point, IsPointText}
-use Rattle.og_session.specs.Names.{is_name}
+-- The statements that run, and the tree that each of them is.
+use Rattle.std.specs.Prelude.{ℕ, ℤ, List, [], ◌∷◌, map}
+use Rattle.og_time.specs.Point.{Point}
+use Rattle.og_value.specs.declared.kind.Kind.TheVariants as kinds
+use Rattle.og_value.specs.declared.schema.Column.{Column}
+use Rattle.og_value.specs.declared.value.Value.{Value}
+use Rattle.og_value.specs.declared.value.Value.TheVariants as v
+use Rattle.og_syntax.specs.declared.tree.Stmt.{Stmt}
+use Rattle.og_syntax.specs.declared.tree.Stmt.TheVariants as s
 
--- what a statement does: it makes a table with one column of dates, adds a row, or prints as of a day
+-- what a statement does: it makes a table with one column of dates, adds a row for each point, or prints as of a day
 pub data Statement : Type 0 where
   Create : (name column : List ℕ) → Statement
-  Insert : (name : List ℕ) (point : Point) → Statement
+  Insert : (name : List ℕ) (points : List Point) → Statement
   Print : (name : List ℕ) (day : ℤ) → Statement
 
--- CREATE TABLE name (column DATE);
-abbrev pub create_text : List ℕ → List ℕ → List ℕ
-create_text name column = codes "CREATE TABLE " ++ name ++ codes " (" ++ column ++ codes " DATE);"
+-- one column of dates
+abbrev pub date_column : List ℕ → List Column
+date_column name = record { name = name; kind = kinds.Date } ∷ []
 
--- INSERT INTO name VALUES (ONGOING 'point');
-abbrev pub insert_text : List ℕ → List ℕ → List ℕ
-insert_text name point = codes "INSERT INTO " ++ name ++ codes " VALUES (ONGOING '" ++ point ++ codes "');"
+-- a row of one point
+abbrev pub point_row : Point → List Value
+point_row point = v.Point point ∷ []
 
--- PRINT name AS OF DATE 'day';
-abbrev pub print_text : List ℕ → List ℕ → List ℕ
-print_text name day = codes "PRINT " ++ name ++ codes " AS OF DATE '" ++ day ++ codes "';"
-
--- the bytes say the statement
-abbrev pub Says : List ℕ → Statement → Type 0
-Says piece (Create name column) =
-    IsTrue (is_name name) × IsTrue (is_name column) × (piece ≡ create_text name column)
-Says piece (Insert name point) =
-    IsTrue (is_name name) × (text : List ℕ) × IsPointText text point × (piece ≡ insert_text name text)
-Says piece (Print name day) =
-    IsTrue (is_name name) × (text : List ℕ) × IsRefDayText text day × (piece ≡ print_text name text)
+-- the tree of a statement
+abbrev pub stmt_of : Statement → Stmt
+stmt_of (Create name column) = s.Create name (date_column column)
+stmt_of (Insert name points) = s.Insert name (map point_row points)
+stmt_of (Print name day) = s.PrintName name day

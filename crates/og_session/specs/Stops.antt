@@ -1,7 +1,11 @@
 -- What a refusal below makes of a run.
 use Rattle.og_io.specs.declared.sink.PutRefusal.{PutRefusal}
 use Rattle.og_io.specs.declared.sink.PutRefusal.TheVariants as puts
-use Rattle.og_session.specs.declared.fault.Fault.TheVariants.{SourceTooLong, Syntax}
+use Rattle.og_lex.specs.declared.refusal.LexRefusal.{LexRefusal}
+use Rattle.og_lex.specs.declared.refusal.LexRefusal.TheVariants as lexes
+use Rattle.og_parse.specs.declared.refusal.ParseRefusal.{ParseRefusal}
+use Rattle.og_parse.specs.declared.refusal.ParseRefusal.TheVariants as parses
+use Rattle.og_session.specs.declared.fault.Fault.TheVariants as faults
 use Rattle.og_session.specs.declared.fault.Stop.{Stop}
 use Rattle.og_session.specs.declared.fault.Stop.TheVariants.{Fault, ReadFault, WriteFault, NoMemory}
 use Rattle.og_session.specs.declared.script.ScriptRefusal.{ScriptRefusal}
@@ -16,11 +20,25 @@ stop_of_put puts.NoMemory = NoMemory
 
 -- of the source
 abbrev pub stop_of_source : SourceRefusal → Stop
-stop_of_source sources.TooLong = Fault SourceTooLong
+stop_of_source sources.TooLong = Fault faults.SourceTooLong
 stop_of_source sources.Failed = ReadFault
 stop_of_source sources.NoMemory = NoMemory
 
+-- of the tokens
+abbrev pub stop_of_lex : LexRefusal → Stop
+stop_of_lex (lexes.BadByte offset) = Fault (faults.BadByte offset)
+stop_of_lex (lexes.OpenText offset) = Fault (faults.OpenText offset)
+stop_of_lex (lexes.NumberRange offset) = Fault (faults.NumberRange offset)
+stop_of_lex lexes.NoMemory = NoMemory
+
+-- of the trees
+abbrev pub stop_of_parse : ParseRefusal → Stop
+stop_of_parse (parses.Syntax statement) = Fault (faults.Syntax statement)
+stop_of_parse (parses.TooDeep statement) = Fault (faults.TooDeep statement)
+stop_of_parse (parses.Literal statement) = Fault (faults.Literal statement)
+stop_of_parse parses.NoMemory = NoMemory
+
 -- of the script
 abbrev pub stop_of_script : ScriptRefusal → Stop
-stop_of_script (scripts.Syntax statement) = Fault (Syntax statement)
+stop_of_script (scripts.Syntax statement) = Fault (faults.Syntax statement)
 stop_of_script scripts.NoMemory = NoMemory

@@ -1,21 +1,24 @@
 //! Carries out a script, up to its fault's line.
-ghost use Rattle.std.specs.Prelude.{◌≡◌, ◌≤◌, ◌↔◌, [], ◌∷◌, IsTrue, ℕ, List, Ok, Err, Some, OnOk, OnErr, length};
+ghost use Rattle.std.specs.Prelude.{◌≡◌, ◌≤◌, ◌↔◌, [], ◌∷◌, IsTrue, ℕ, List, Ok, Err, Some, IfOk, IfErr, OnOk, OnErr, length};
 ghost use Rattle.std.specs.Io.KnownBytes.{Appends};
 ghost use Rattle.og_base.specs.Told.{Rose, AppendsFront};
 ghost use Rattle.og_io.specs.declared.sink.PutRefusal.{PutRefusal};
 ghost use Rattle.og_session.specs.Actions.{statements_of};
 ghost use Rattle.og_session.specs.Ends.{EndsUnreported};
 ghost use Rattle.og_session.specs.Headline.{IsTold};
-ghost use Rattle.og_session.specs.Output.{IsRun, output_from, source_limit};
+ghost use Rattle.og_session.specs.Output.{IsRun, AreTrees, output_from, source_limit};
 ghost use Rattle.og_session.specs.declared.fault.Fault.{Fault};
 ghost use Rattle.og_session.specs.declared.fault.Stop.{Stop};
 
 use crate::fault::{Fault, Stop};
+use crate::law::one_defined_run;
 use crate::script::Script;
 use crate::source::read_source;
 use crate::table::Table;
 use og_base::Words;
 use og_io::{PutRefusal, Sink, Source};
+use og_lex::lex;
+use og_parse::{Script as Tree, parse};
 use std::alloc::Global;
 
 /// Runs the command that the words are, and writes what it prints, up to the line of a fault.
@@ -58,11 +61,27 @@ fn run_bytes<K: Sink>(alloc: Global, bytes: &[u8], out: &mut K) -> Result<(), St
     ensures write_fault { result ≡ Err Stop.WriteFault → Rose (K.faults out.old) (K.faults out.new) }
     ensures later { K.faults out.old ≤ K.faults out.new }
 {
-    let Some(script) = Script::read(alloc, bytes)? else {
+    one_defined_run();
+    let tree = tree_of(alloc, bytes)?;
+    let Some(script) = Script::of(alloc, tree.stmts.as_slice())? else {
         return Ok(());
     };
     run_script(alloc, &script, out)?;
     Ok(())
+}
+
+// The tree of the bytes.
+fn tree_of(alloc: Global, bytes: &[u8]) -> Result<Tree, Stop>
+    requires { length bytes.now ≤ source_limit }
+    ensures tree { IfOk result (λ tree. AreTrees bytes.now tree.stmts) }
+    ensures stopped { (words : List (List ℕ)) → IsRun words → IfErr result (λ stop. EndsUnreported words bytes.now [] (Err stop)) }
+    ensures words { result ≡ Err (Stop.Fault Fault.Words) → ⊥ }
+    ensures read_fault { result ≡ Err Stop.ReadFault → ⊥ }
+    ensures write_fault { result ≡ Err Stop.WriteFault → ⊥ }
+{
+    let tokens = lex(alloc, bytes)?;
+    let tree = parse(alloc, bytes, tokens.as_slice())?;
+    Ok(tree)
 }
 
 /// Runs the script's statements in order and writes what they print. Where the sink refuses a piece,
@@ -79,7 +98,7 @@ pub fn run_script<K: Sink>(
 {
     let mut table = Table::new(alloc, script.column);
     'actions: for action in &script.actions {
-        table.act(alloc, *action, out)?;
+        table.act(alloc, action, out)?;
     }
     Ok(())
 }

@@ -8,6 +8,8 @@ use crate::script::ScriptRefusal;
 use crate::source::SourceRefusal;
 use og_base::NoMemory;
 use og_io::PutRefusal;
+use og_lex::LexRefusal;
+use og_parse::ParseRefusal;
 use std::alloc::Global;
 use thiserror::Error;
 
@@ -20,9 +22,24 @@ pub enum Fault {
     /// The source has more bytes than a script may have.
     #[error("the source is too long")]
     SourceTooLong,
-    /// The statement with that number, counted from 1, is none.
-    #[error("statement {statement} is no statement")]
+    /// No token begins at that place, counted in bytes from 0.
+    #[error("no token at {offset}")]
+    BadByte { offset: usize },
+    /// The text that begins at that place does not close.
+    #[error("open text at {offset}")]
+    OpenText { offset: usize },
+    /// The number that begins at that place is outside 64 bits.
+    #[error("number out of range at {offset}")]
+    NumberRange { offset: usize },
+    /// The statement with that number, counted from 1, is none that runs.
+    #[error("statement {statement} is no statement that runs")]
     Syntax { statement: usize },
+    /// The statement with that number is nested too deep.
+    #[error("statement {statement} is too deep")]
+    TooDeep { statement: usize },
+    /// A quoted text of the statement with that number is not of its form.
+    #[error("a literal of statement {statement} is not of its form")]
+    Literal { statement: usize },
 }
 
 impl Fault {
@@ -35,8 +52,19 @@ impl Fault {
         let line = match self {
             Fault::Words => String::from_str(alloc, "fault words\n")?,
             Fault::SourceTooLong => String::from_str(alloc, "fault source too long\n")?,
+            Fault::BadByte { offset } => format!(in alloc; "fault byte at {offset}\n")?,
+            Fault::OpenText { offset } => format!(in alloc; "fault open text at {offset}\n")?,
+            Fault::NumberRange { offset } => {
+                format!(in alloc; "fault number range at {offset}\n")?
+            }
             Fault::Syntax { statement } => {
                 format!(in alloc; "fault syntax statement {statement}\n")?
+            }
+            Fault::TooDeep { statement } => {
+                format!(in alloc; "fault too deep statement {statement}\n")?
+            }
+            Fault::Literal { statement } => {
+                format!(in alloc; "fault literal statement {statement}\n")?
             }
         };
         Ok(line)
@@ -48,7 +76,7 @@ impl Fault {
     {
         match self {
             Fault::Words => 2,
-            Fault::SourceTooLong | Fault::Syntax { .. } => 3,
+            _ => 3,
         }
     }
 }
@@ -93,6 +121,36 @@ impl From<SourceRefusal> for Stop {
             SourceRefusal::TooLong => Stop::Fault(Fault::SourceTooLong),
             SourceRefusal::Failed => Stop::ReadFault,
             SourceRefusal::NoMemory => Stop::NoMemory,
+        }
+    }
+}
+
+impl From<LexRefusal> for Stop {
+    ghost use Rattle.og_session.specs.Stops.{stop_of_lex};
+
+    ghost from_gives = { λ refusal stop. stop ≡ stop_of_lex refusal };
+
+    fn from(refusal: LexRefusal) -> Stop {
+        match refusal {
+            LexRefusal::BadByte { offset } => Stop::Fault(Fault::BadByte { offset }),
+            LexRefusal::OpenText { offset } => Stop::Fault(Fault::OpenText { offset }),
+            LexRefusal::NumberRange { offset } => Stop::Fault(Fault::NumberRange { offset }),
+            LexRefusal::NoMemory => Stop::NoMemory,
+        }
+    }
+}
+
+impl From<ParseRefusal> for Stop {
+    ghost use Rattle.og_session.specs.Stops.{stop_of_parse};
+
+    ghost from_gives = { λ refusal stop. stop ≡ stop_of_parse refusal };
+
+    fn from(refusal: ParseRefusal) -> Stop {
+        match refusal {
+            ParseRefusal::Syntax { statement } => Stop::Fault(Fault::Syntax { statement }),
+            ParseRefusal::TooDeep { statement } => Stop::Fault(Fault::TooDeep { statement }),
+            ParseRefusal::Literal { statement } => Stop::Fault(Fault::Literal { statement }),
+            ParseRefusal::NoMemory => Stop::NoMemory,
         }
     }
 }

@@ -5,13 +5,10 @@ mod action;
 mod carry;
 mod fault;
 mod law;
-mod name;
-mod piece;
 mod records;
 mod script;
 mod session;
 mod source;
-mod statement;
 mod table;
 
 pub use law::one_defined_run;

@@ -1,13 +1,12 @@
-//! A script: a table, and what is done with it.
-ghost use Rattle.std.specs.Prelude.{◌≡◌, List, ℕ, Err, IsTrue, IfOk, IfSome, map};
-ghost use Rattle.og_session.specs.Names.{is_name};
+//! A script of one table: the table, and what is done with it.
+ghost use Rattle.std.specs.Prelude.{◌≡◌, ℕ, Err, IfOk, map};
 ghost use Rattle.og_session.specs.Actions.{said};
+ghost use Rattle.og_session.specs.Statements.{stmt_of};
 ghost use Rattle.og_session.specs.declared.script.ScriptRefusal.TheVariants.{Syntax};
-ghost use Rattle.og_session.specs.Script.{pieces_of, IsScript, SayLater, IsFault, IsLaterFault};
+ghost use Rattle.og_session.specs.Script.{IsLaterFault};
 
-use crate::action::Action;
-use crate::piece::next_piece;
-use crate::statement::{read_action, read_create};
+use crate::action::{Action, action_of, names_of};
+use og_syntax::Stmt;
 use std::alloc::Global;
 use thiserror::Error;
 
@@ -20,11 +19,11 @@ pub struct Script<'a> {
     pub actions: Vec<Action>,
 }
 
-/// Why a script was not read.
+/// Why trees are no script of one table.
 #[derive(Clone, Copy, Debug, PartialEq, Eq, Error)]
 pub enum ScriptRefusal {
-    /// The piece with that number, counted from 1, is the first that is no statement.
-    #[error("statement {statement} is no statement")]
+    /// The statement with that number, counted from 1, is the first that does not run.
+    #[error("statement {statement} does not run")]
     Syntax { statement: usize },
     /// Memory ran out.
     #[error("want of memory")]
@@ -33,20 +32,21 @@ pub enum ScriptRefusal {
 
 impl Script<'_> {
     ghost use Rattle.og_session.specs.Actions.{statements_of_script};
+    ghost use Rattle.og_session.specs.Script.{IsBuilt, IsFault};
     ghost use Rattle.og_session.specs.declared.script.ScriptRefusal.TheVariants.{Syntax};
 
-    /// Reads the script, or none where it has no statement.
-    pub fn read(alloc: Global, source: &[u8]) -> Result<Option<Script<'_>>, ScriptRefusal>
-        ensures read { IfOk result (λ script. IsScript (pieces_of source.now) (statements_of_script script)) }
-        ensures fault { (n : ℕ) → result ≡ Err (Syntax n) → IsFault (pieces_of source.now) n }
+    /// The script of the trees, or none where there is no statement.
+    pub fn of(alloc: Global, stmts: &[Stmt]) -> Result<Option<Script<'_>>, ScriptRefusal>
+        ensures built { IfOk result (λ script. IsBuilt stmts.now (statements_of_script script)) }
+        ensures fault { (n : ℕ) → result ≡ Err (Syntax n) → IsFault stmts.now n }
     {
-        let Some((first, rest)) = next_piece(source) else {
+        let Some((first, rest)) = stmts.split_first() else {
             return Ok(None);
         };
-        let Some((name, column)) = read_create(first) else {
+        let Some((name, column)) = names_of(first) else {
             return Err(ScriptRefusal::Syntax { statement: 1 });
         };
-        match read_actions(alloc, name, rest) {
+        match actions_of(alloc, rest, name) {
             Ok(actions) => Ok(Some(Script {
                 name,
                 column,
@@ -57,19 +57,17 @@ impl Script<'_> {
     }
 }
 
-// Reads what is done with the table of that name: all pieces after the first.
-fn read_actions(alloc: Global, name: &[u8], source: &[u8]) -> Result<Vec<Action>, ScriptRefusal>
-    requires { IsTrue (is_name name.now) }
-    ensures read { IfOk result (λ actions. SayLater name.now (pieces_of source.now) (map (said name.now) actions.items)) }
-    ensures fault { (n : ℕ) → result ≡ Err (Syntax n) → IsLaterFault name.now (pieces_of source.now) n }
+// What all trees after the first do with the table of that name.
+fn actions_of(alloc: Global, stmts: &[Stmt], name: &[u8]) -> Result<Vec<Action>, ScriptRefusal>
+    ensures built { IfOk result (λ actions. stmts.now ≡ map stmt_of (map (said name.now) actions.items)) }
+    ensures fault { (n : ℕ) → result ≡ Err (Syntax n) → IsLaterFault name.now stmts.now n }
 {
     let mut actions = Vec::new(alloc);
-    let mut rest = source;
-    'pieces: for place in 0..source.len() {
-        let Some((piece, after)) = next_piece(rest) else {
-            return Ok(actions);
+    'stmts: for place in 0..stmts.len() {
+        let Ok(found) = action_of(alloc, &stmts[place], name) else {
+            return Err(ScriptRefusal::NoMemory);
         };
-        let Some(action) = read_action(piece, name) else {
+        let Some(action) = found else {
             return Err(ScriptRefusal::Syntax {
                 statement: place + 2,
             });
@@ -77,7 +75,6 @@ fn read_actions(alloc: Global, name: &[u8], source: &[u8]) -> Result<Vec<Action>
         let Ok(()) = actions.push(action) else {
             return Err(ScriptRefusal::NoMemory);
         };
-        rest = after;
     }
     Ok(actions)
 }

@@ -11,6 +11,7 @@ ghost use Rattle.og_session.specs.declared.fault.Stop.{Stop};
 
 use crate::carry::carry_out;
 use crate::fault::{Fault, Stop, fault_of, status_of};
+use crate::law::one_defined_run;
 use og_base::Words;
 use og_io::{PutRefusal, Sink, Source};
 use std::alloc::Global;
@@ -18,8 +19,8 @@ use std::thread::Threads;
 
 /// Runs the command that the words are: `run` reads the source to its end as a script, and writes
 /// what its statements print, each PRINT as of its own day. Gives the exit status:
-/// 0 all statements ran; 2 the words are no command; 3 the script is too long or a piece of it is no
-/// statement; 6 the source failed; 8 the sink failed; 9 memory ran out. On 2 and 3 the last line of
+/// 0 all statements ran; 2 the words are no command; 3 the script is too long, or has no tokens, or a
+/// statement of it is none that runs; 6 the source failed; 8 the sink failed; 9 memory ran out. On 2 and 3 the last line of
 /// the output names the fault (docs/LANGUAGE.md, "Faults").
 pub fn run<H: Threads + Sync, S: Source, K: Sink>(
     rt: &H,
@@ -50,6 +51,7 @@ pub fn run<H: Threads + Sync, S: Source, K: Sink>(
         ¬ Rose (S.faults src.old) (S.faults src.new) → ¬ Rose (K.faults out.old) (K.faults out.new) →
         (result ≡ 9) ⊎ ((output : List ℕ) × IsDefinedRun words.now source output result) }
 {
+    one_defined_run();
     let end = run_to_end(alloc, words, src, out);
     status_of(end)
 }
@@ -70,6 +72,7 @@ fn run_to_end<S: Source, K: Sink>(
     ensures read_fault { result ≡ Err Stop.ReadFault → IsRun words.now × Rose (S.faults src.old) (S.faults src.new) }
     ensures write_fault { result ≡ Err Stop.WriteFault → Rose (K.faults out.old) (K.faults out.new) }
 {
+    one_defined_run();
     let end = carry_out(alloc, words, src, out);
     let Some(fault) = fault_of(end) else {
         return end;

@@ -1,11 +1,11 @@
 //! A table with one column of ongoing points.
-ghost use Rattle.std.specs.Prelude.{◌≡◌, ◌≤◌, ◌++◌, [], ◌∷◌, Err, IfOk, OnOk, OnErr, map};
+ghost use Rattle.std.specs.Prelude.{◌≡◌, ◌≤◌, ◌++◌, [], Err, IfOk, OnOk, OnErr};
 ghost use Rattle.std.specs.Io.KnownBytes.{Appends};
 ghost use Rattle.og_base.specs.Told.{Rose, AppendsFront};
 ghost use Rattle.og_io.specs.declared.sink.PutRefusal.{PutRefusal};
-ghost use Rattle.og_time.specs.Point.{point_at};
 ghost use Rattle.og_session.specs.Output.{layout};
-ghost use Rattle.og_session.specs.Table.{points_of, rows_on, action_text};
+ghost use Rattle.og_session.specs.World.{days_at};
+ghost use Rattle.og_session.specs.Table.{points_in, rows_on, action_text};
 
 use crate::action::Action;
 use crate::records::layout;
@@ -33,27 +33,27 @@ impl<'a> Table<'a> {
         }
     }
 
-    /// Does the action to the table: an insert adds a row, a print writes the table as of a day.
+    /// Does the action to the table: an insert adds rows, a print writes the table as of a day.
     /// Where it is refused, a front of what it writes was written.
     pub fn act<K: Sink>(
         &mut self,
         alloc: Global,
-        action: Action,
+        action: &Action,
         out: &mut K,
     ) -> Result<(), PutRefusal>
         ensures column { OnOk result (self.new.column.now ≡ self.old.column.now) }
-        ensures points { OnOk result (self.new.points.items ≡ self.old.points.items ++ points_of (action ∷ [])) }
-        ensures written { OnOk result (Appends (K.written out.old) (K.written out.new) (action_text self.old.column.now self.old.points.items action)) }
-        ensures refused { OnErr result (AppendsFront (K.written out.old) (K.written out.new) (action_text self.old.column.now self.old.points.items action)) }
+        ensures points { OnOk result (self.new.points.items ≡ self.old.points.items ++ points_in action.now) }
+        ensures written { OnOk result (Appends (K.written out.old) (K.written out.new) (action_text self.old.column.now self.old.points.items action.now)) }
+        ensures refused { OnErr result (AppendsFront (K.written out.old) (K.written out.new) (action_text self.old.column.now self.old.points.items action.now)) }
         ensures later { K.faults out.old ≤ K.faults out.new }
         ensures failed { result ≡ Err PutRefusal.Failed → Rose (K.faults out.old) (K.faults out.new) }
     {
         match action {
-            Action::Insert(point) => match self.points.push(point) {
+            Action::Insert(points) => match self.points.extend_from_slice(points.as_slice()) {
                 Ok(()) => Ok(()),
                 Err(_) => Err(PutRefusal::NoMemory),
             },
-            Action::Print(day) => self.print(alloc, day, out),
+            Action::Print(day) => self.print(alloc, *day, out),
         }
     }
 
@@ -81,7 +81,7 @@ impl<'a> Table<'a> {
 
 // The points on the day, in their order.
 fn days_on(alloc: Global, points: &[OngoingPoint], day: RefDay) -> Result<Vec<ExtDay>, NoMemory>
-    ensures { IfOk result (λ days. days.items ≡ map (λ p. point_at p day) points.now) }
+    ensures { IfOk result (λ days. days.items ≡ days_at day points.now) }
 {
     // The memory is taken at once, so that want of it ends the run.
     let mut days = Vec::with_capacity(alloc, points.len())?;
