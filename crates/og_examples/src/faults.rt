@@ -3,39 +3,51 @@ use crate::runs::{assert_runs, ran};
 use std::test::Fail;
 
 #[test]
-fn a_piece_that_is_no_first_statement_is_named(rt: HostRuntime) -> Result<(), Fail> {
+fn a_script_without_tokens_is_refused_with_its_place(rt: HostRuntime) -> Result<(), Fail> {
     assert_runs(
         &rt,
         3,
         &[
             (
-                "a print without a table",
-                "PRINT t AS OF DATE '2020-05-01';",
+                "a byte that begins no token",
+                "TABLES #;",
+                "fault byte at 7\n",
+            ),
+            (
+                "a text that does not close",
+                "DROP 'a",
+                "fault open text at 5\n",
+            ),
+            (
+                "a number above 64 bits",
+                "DROP 9223372036854775808;",
+                "fault number range at 5\n",
+            ),
+            ("a byte after a comment", "-- #\n#", "fault byte at 5\n"),
+            (
+                "a byte after a good print",
+                "CREATE TABLE t (p DATE); PRINT t AS OF DATE '2020-05-01'; #",
+                "fault byte at 58\n",
+            ),
+        ],
+    )?;
+    Ok(())
+}
+
+#[test]
+fn a_statement_that_is_none_is_named(rt: HostRuntime) -> Result<(), Fail> {
+    assert_runs(
+        &rt,
+        3,
+        &[
+            (
+                "a number for a name",
+                "DROP 5;",
                 "fault syntax statement 1\n",
             ),
             (
                 "a reserved name",
                 "CREATE TABLE table (p DATE);",
-                "fault syntax statement 1\n",
-            ),
-            (
-                "an upper-case name",
-                "CREATE TABLE T (p DATE);",
-                "fault syntax statement 1\n",
-            ),
-            (
-                "lower-case keywords",
-                "create table t (p date);",
-                "fault syntax statement 1\n",
-            ),
-            (
-                "two spaces",
-                "CREATE  TABLE t (p DATE);",
-                "fault syntax statement 1\n",
-            ),
-            (
-                "a tab in front",
-                "\tCREATE TABLE t (p DATE);",
                 "fault syntax statement 1\n",
             ),
             (
@@ -48,40 +60,9 @@ fn a_piece_that_is_no_first_statement_is_named(rt: HostRuntime) -> Result<(), Fa
                 "; CREATE TABLE t (p DATE);",
                 "fault syntax statement 1\n",
             ),
-        ],
-    )?;
-    Ok(())
-}
-
-#[test]
-fn a_piece_that_is_no_second_statement_is_named(rt: HostRuntime) -> Result<(), Fail> {
-    assert_runs(
-        &rt,
-        3,
-        &[
             (
-                "a point that ends before it starts",
-                "CREATE TABLE t (p DATE); INSERT INTO t VALUES (ONGOING '2021-01-01+2020-01-01');",
-                "fault syntax statement 2\n",
-            ),
-            (
-                "a print of another table",
-                "CREATE TABLE t (p DATE); PRINT u AS OF DATE '2020-05-01';",
-                "fault syntax statement 2\n",
-            ),
-            (
-                "an insert into another table",
-                "CREATE TABLE t (p DATE); INSERT INTO u VALUES (ONGOING 'now');",
-                "fault syntax statement 2\n",
-            ),
-            (
-                "a second create",
-                "CREATE TABLE t (p DATE); CREATE TABLE u (p DATE);",
-                "fault syntax statement 2\n",
-            ),
-            (
-                "two spaces",
-                "CREATE TABLE t (p DATE); PRINT t AS OF  DATE '2020-05-01';",
+                "a tuple without its parentheses",
+                "CREATE TABLE t (p DATE); INSERT INTO t VALUES ONGOING 'now';",
                 "fault syntax statement 2\n",
             ),
             (
@@ -90,14 +71,9 @@ fn a_piece_that_is_no_second_statement_is_named(rt: HostRuntime) -> Result<(), F
                 "fault syntax statement 2\n",
             ),
             (
-                "a tab in front",
-                "CREATE TABLE t (p DATE);\tPRINT t AS OF DATE '2020-05-01';",
-                "fault syntax statement 2\n",
-            ),
-            (
-                "lower-case keywords",
-                "CREATE TABLE t (p DATE); print t as of date '2020-05-01';",
-                "fault syntax statement 2\n",
+                "after a good print",
+                "CREATE TABLE t (p DATE); PRINT t AS OF DATE '2020-05-01'; PRINT t;",
+                "fault syntax statement 3\n",
             ),
         ],
     )?;
@@ -105,35 +81,124 @@ fn a_piece_that_is_no_second_statement_is_named(rt: HostRuntime) -> Result<(), F
 }
 
 #[test]
-fn a_fault_in_the_third_statement_is_all_that_is_written(rt: HostRuntime) -> Result<(), Fail> {
+fn a_first_statement_that_does_not_run_is_named(rt: HostRuntime) -> Result<(), Fail> {
+    assert_runs(
+        &rt,
+        3,
+        &[
+            ("a list of tables", "TABLES;", "fault syntax statement 1\n"),
+            ("a drop", "DROP t;", "fault syntax statement 1\n"),
+            (
+                "a print without a table",
+                "PRINT t AS OF DATE '2020-05-01';",
+                "fault syntax statement 1\n",
+            ),
+            (
+                "an insert without a table",
+                "INSERT INTO t VALUES (ONGOING 'now');",
+                "fault syntax statement 1\n",
+            ),
+            (
+                "a create of two columns",
+                "CREATE TABLE t (p DATE, q DATE);",
+                "fault syntax statement 1\n",
+            ),
+            (
+                "a create of a column of numbers",
+                "CREATE TABLE t (p INT);",
+                "fault syntax statement 1\n",
+            ),
+        ],
+    )?;
+    Ok(())
+}
+
+#[test]
+fn a_later_statement_that_does_not_run_is_named(rt: HostRuntime) -> Result<(), Fail> {
     assert_runs(
         &rt,
         3,
         &[
             (
+                "an insert into another table",
+                "CREATE TABLE t (p DATE); INSERT INTO u VALUES (ONGOING 'now');",
+                "fault syntax statement 2\n",
+            ),
+            (
+                "a print of another table",
+                "CREATE TABLE t (p DATE); PRINT u AS OF DATE '2020-05-01';",
+                "fault syntax statement 2\n",
+            ),
+            (
+                "a second create",
+                "CREATE TABLE t (p DATE); CREATE TABLE u (p DATE);",
+                "fault syntax statement 2\n",
+            ),
+            (
+                "an insert of a number",
+                "CREATE TABLE t (p DATE); INSERT INTO t VALUES (5);",
+                "fault syntax statement 2\n",
+            ),
+            (
+                "a number in the second tuple",
+                "CREATE TABLE t (p DATE); INSERT INTO t VALUES (ONGOING 'now'), (5);",
+                "fault syntax statement 2\n",
+            ),
+            (
+                "a tuple of two points",
+                "CREATE TABLE t (p DATE); INSERT INTO t VALUES (ONGOING 'now', ONGOING 'now');",
+                "fault syntax statement 2\n",
+            ),
+            (
+                "after a good print",
+                "CREATE TABLE t (p DATE); PRINT t AS OF DATE '2020-05-01'; TABLES;",
+                "fault syntax statement 3\n",
+            ),
+        ],
+    )?;
+    Ok(())
+}
+
+#[test]
+fn a_text_that_is_not_of_its_form_is_named(rt: HostRuntime) -> Result<(), Fail> {
+    assert_runs(
+        &rt,
+        3,
+        &[
+            (
+                "a point that ends before it starts",
+                "CREATE TABLE t (p DATE); INSERT INTO t VALUES (ONGOING '2021-01-01+2020-01-01');",
+                "fault literal statement 2\n",
+            ),
+            (
                 "a day that its year has not",
                 "CREATE TABLE t (p DATE); INSERT INTO t VALUES (ONGOING 'now'); PRINT t AS OF DATE '-000001-02-29';",
-                "fault syntax statement 3\n",
+                "fault literal statement 3\n",
             ),
             (
                 "a year 0 with a sign",
                 "CREATE TABLE t (p DATE); INSERT INTO t VALUES (ONGOING 'now'); PRINT t AS OF DATE '-000000-01-01';",
-                "fault syntax statement 3\n",
+                "fault literal statement 3\n",
             ),
             (
                 "an infinity",
                 "CREATE TABLE t (p DATE); INSERT INTO t VALUES (ONGOING 'now'); PRINT t AS OF DATE 'infinity';",
-                "fault syntax statement 3\n",
+                "fault literal statement 3\n",
             ),
             (
                 "a month and a day of one digit",
                 "CREATE TABLE t (p DATE); INSERT INTO t VALUES (ONGOING 'now'); PRINT t AS OF DATE '2020-5-1';",
-                "fault syntax statement 3\n",
+                "fault literal statement 3\n",
             ),
             (
                 "after a good print",
                 "CREATE TABLE t (p DATE); PRINT t AS OF DATE '2020-05-01'; PRINT t AS OF DATE '2020-5-1';",
-                "fault syntax statement 3\n",
+                "fault literal statement 3\n",
+            ),
+            (
+                "after a statement that does not run",
+                "TABLES; PRINT t AS OF DATE '2020-5-1';",
+                "fault literal statement 2\n",
             ),
         ],
     )?;

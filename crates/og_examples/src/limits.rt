@@ -1,4 +1,4 @@
-//! The longest source, and a script of many statements.
+//! The longest source, the deepest statement, and scripts of many rows.
 use crate::runs::ran_whole;
 use std::test::Fail;
 
@@ -11,6 +11,19 @@ fn a_source_may_have_16_777_216_bytes_and_no_more(rt: HostRuntime) -> Result<(),
         let end = ran_whole(&rt, vec![in rt.alloc(); b' '; length]?.as_slice())?;
         assert_eq!(rt; end.status, status, "{length} spaces");
         assert_eq!(rt; end.written.as_slice(), written, "{length} spaces");
+    }
+    Ok(())
+}
+
+#[test]
+fn a_statement_may_have_100_open_parentheses_and_no_more(rt: HostRuntime) -> Result<(), Fail> {
+    for (count, written) in [
+        (100, b"fault syntax statement 1\n".as_slice()),
+        (101, b"fault too deep statement 1\n".as_slice()),
+    ] {
+        let end = ran_whole(&rt, vec![in rt.alloc(); b'('; count]?.as_slice())?;
+        assert_eq!(rt; end.status, 3, "{count} parentheses");
+        assert_eq!(rt; end.written.as_slice(), written, "{count} parentheses");
     }
     Ok(())
 }
@@ -37,6 +50,24 @@ fn a_script_of_20_000_rows_prints_its_distinct_days(rt: HostRuntime) -> Result<(
     assert_eq!(rt;
         end.written.as_slice(),
         b"p\n0001-01-01\n2020-03-03\n2020-03-04\ninfinity\n".as_slice()
+    );
+    Ok(())
+}
+
+#[test]
+fn an_insert_of_20_001_tuples_prints_its_distinct_days(rt: HostRuntime) -> Result<(), Fail> {
+    let mut script = b"CREATE TABLE t (p DATE);\nINSERT INTO t VALUES (ONGOING 'now')".to_vec(
+        rt.alloc(),
+    )?;
+    for _ in 0..10_000 {
+        script.extend_from_slice(b", (DATE '2020-03-04'), (ONGOING '2020-03-03')")?;
+    }
+    script.extend_from_slice(b";\nPRINT t AS OF DATE '2020-05-01';\n")?;
+    let end = ran_whole(&rt, script.as_slice())?;
+    assert_eq!(rt; end.status, 0);
+    assert_eq!(rt;
+        end.written.as_slice(),
+        b"p\n2020-03-03\n2020-03-04\n2020-05-01\n".as_slice()
     );
     Ok(())
 }

@@ -10,6 +10,7 @@ fn a_script_without_a_print_writes_nothing(rt: HostRuntime) -> Result<(), Fail> 
         &[
             ("empty", "", ""),
             ("blanks", "  \n \n\n", ""),
+            ("a comment", "-- nothing", ""),
             ("a create alone", "CREATE TABLE t (p DATE);", ""),
         ],
     )?;
@@ -85,6 +86,14 @@ INSERT INTO t VALUES (ONGOING '2020-02-02');
                 "p\n2020-01-01\n",
             ),
             (
+                "several tuples in one insert",
+                "CREATE TABLE t (p DATE);
+INSERT INTO t VALUES (ONGOING 'infinity'), (DATE '2021-01-01'), (ONGOING 'now'), (ONGOING '2021-01-01');
+PRINT t AS OF DATE '2020-05-01';
+",
+                "p\n2020-05-01\n2021-01-01\ninfinity\n",
+            ),
+            (
                 "two equal rows",
                 "CREATE TABLE t (p DATE);
 INSERT INTO t VALUES (ONGOING '2020-01-01');
@@ -132,21 +141,42 @@ PRINT t AS OF DATE '2020-05-01';
     Ok(())
 }
 
+// Spellings of one script, which prints the day 2020-05-01.
+const SPELLINGS: [(&str, &str); 7] = [
+    (
+        "no blanks between the statements",
+        "CREATE TABLE t (p DATE);INSERT INTO t VALUES (ONGOING '+2020-06-30');PRINT t AS OF DATE '2020-05-01';",
+    ),
+    (
+        "no blanks beside symbols and texts",
+        "CREATE TABLE t(p DATE);INSERT INTO t VALUES(ONGOING'+2020-06-30');PRINT t AS OF DATE'2020-05-01';",
+    ),
+    (
+        "line feeds and spaces",
+        "\n  CREATE  TABLE t (p DATE) ; \n\n   INSERT INTO t VALUES\n(ONGOING '+2020-06-30');\n \nPRINT t AS OF DATE '2020-05-01';\n  \n",
+    ),
+    (
+        "tabs and carriage returns",
+        "\tCREATE\tTABLE t\r\n(p\tDATE);\r\nINSERT INTO\rt VALUES (\tONGOING '+2020-06-30'\t);\r\nPRINT t AS OF DATE '2020-05-01';\r\n",
+    ),
+    (
+        "comments",
+        "-- a table; isn't it\nCREATE TABLE t (p DATE); -- '\nINSERT INTO t--\nVALUES (ONGOING '+2020-06-30');\nPRINT t AS OF DATE '2020-05-01';-- the end",
+    ),
+    (
+        "lower-case keywords",
+        "create table t (p date); insert into t values (ongoing '+2020-06-30'); print t as of date '2020-05-01';",
+    ),
+    (
+        "upper-case names",
+        "Create Table T (P Date); Insert Into t Values (OnGoing '+2020-06-30'); Print T As Of Date '2020-05-01';",
+    ),
+];
+
 #[test]
-fn blanks_before_a_piece_and_the_step_of_the_source_change_no_output(
-    rt: HostRuntime,
-) -> Result<(), Fail> {
-    for (name, script) in [
-        (
-            "no blanks between the pieces",
-            "CREATE TABLE t (p DATE);INSERT INTO t VALUES (ONGOING '+2020-06-30');PRINT t AS OF DATE '2020-05-01';",
-        ),
-        (
-            "line feeds and spaces before each piece",
-            "\n  CREATE TABLE t (p DATE); \n\n   INSERT INTO t VALUES (ONGOING '+2020-06-30');\n \nPRINT t AS OF DATE '2020-05-01';\n  \n",
-        ),
-    ] {
-        for step in [1, 2, 7, 65_536] {
+fn the_spelling_and_the_step_of_the_source_change_no_output(rt: HostRuntime) -> Result<(), Fail> {
+    for (name, script) in SPELLINGS {
+        for step in [1, 7, 65_536] {
             let end = ran(&rt, &["run"], script.as_bytes(), step, None, None)?;
             assert_eq!(rt; end.status, 0, "{name}, {step} bytes a call");
             assert_eq!(rt;
