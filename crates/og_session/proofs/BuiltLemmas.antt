@@ -1,6 +1,6 @@
 -- Which trees run as a script of one table, and the first that does not.
 use Rattle.std.proofs.Common.{◌≡◌, ◌++◌, ◌+◌, ◌<◌, ℕ, zero, suc, Some, get_or, slice_get, List, [], ◌∷◌, length, map, refl, sym, ap, ap₂, ◌∙◌, subst, arith}
-use Rattle.std.proofs.lemmas.List.{append_assoc, length-map}
+use Rattle.std.proofs.lemmas.List.{length-map}
 use Rattle.og_time.specs.Point.{Point}
 use Rattle.og_value.specs.declared.kind.Kind.TheVariants as kinds
 use Rattle.og_value.specs.declared.schema.Column.{Column}

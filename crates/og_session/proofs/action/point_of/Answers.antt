@@ -1,4 +1,4 @@
-use Rattle.std.proofs.Common.{◌∷◌, [], ◌∙◌, ap, sym, arith, Some}
+use Rattle.std.proofs.Common.{◌∷◌, [], ◌∙◌, ap, arith}
 use Rattle.og_session.proofs.BuiltLemmas.{one_value}
 use Rattle.og_session.proofs.action.point_of.Goals as goal
 
