@@ -120,6 +120,7 @@ ends_unsaid one words source old mid new fault refusal (text, appended, (none, d
 
 -- ---- the clauses of the headline, from how the run ends
 
+-- the status is that of the defined run, or the run was stopped
 pub has_status : (words : List (List ℕ)) (source text : List ℕ) (end : Result (Unit {0}) Stop) → Ends words source text end → HasStatus words source (status_of end)
 has_status words source text (Ok done) h = inr (text, h)
 has_status words source text (Err (stops.Fault fault)) h = inr (text, h)
@@ -127,6 +128,7 @@ has_status words source text (Err stops.ReadFault) h = inl (inl refl)
 has_status words source text (Err stops.WriteFault) h = inl (inr (inl refl))
 has_status words source text (Err stops.NoMemory) h = inl (inr (inr refl))
 
+-- the status is one of the six
 pub is_answer : (end : Result (Unit {0}) Stop) → IsAnswer (status_of end)
 is_answer (Ok done) = (0, omega arith, refl)
 is_answer (Err (stops.Fault faults.Words)) = (1, omega arith, refl)
@@ -156,6 +158,7 @@ fault_read (faults.Literal n) e = absurd (omega (arith, e))
 whole_front : IsOneRun → (words : List (List ℕ)) (source text : List ℕ) (status : ℕ) → IsDefinedRun words source text status → IsFront words source text
 whole_front one words source text status d = front_of one words source text text status d ([], sym (append-nil text))
 
+-- what was written is a front of the output, and all of it unless the run was stopped
 pub has_output : IsOneRun → (words : List (List ℕ)) (source text : List ℕ) (end : Result (Unit {0}) Stop) → Ends words source text end → HasOutput words source text (status_of end)
 has_output one words source text (Ok done) h = record { front = whole_front one words source text 0 h; whole = inr h; unread = λ e. absurd (omega (arith, e)) }
 has_output one words source text (Err (stops.Fault fault)) h = record { front = whole_front one words source text (fault_status fault) h; whole = inr h; unread = λ e. fault_read fault e }
@@ -163,6 +166,7 @@ has_output one words source text (Err stops.ReadFault) h = record { front = subs
 has_output one words source text (Err stops.WriteFault) h = record { front = h; whole = inl (inr (inl refl)); unread = λ e. absurd (omega (arith, e)) }
 has_output one words source text (Err stops.NoMemory) h = record { front = h; whole = inl (inr (inr refl)); unread = λ e. absurd (omega (arith, e)) }
 
+-- where no device failed, the status is that of the defined run, or memory ran out
 pub is_complete : (words : List (List ℕ)) (source text : List ℕ) (end : Result (Unit {0}) Stop) → Ends words source text end → (end ≡ Err stops.ReadFault → ⊥) → (end ≡ Err stops.WriteFault → ⊥)
     → (status_of end ≡ 9) ⊎ ((output : List ℕ) × IsDefinedRun words source output (status_of end))
 is_complete words source text (Ok done) h r w = inr (text, h)

@@ -15,10 +15,12 @@ pub layout-nil : (column : List ℕ) → layout column [] ≡ row_text default_w
 unfolding layout
 layout-nil column = append-nil (row_text default_writer (column ∷ []))
 
+-- the records of one day more
 days-snoc : (days : List ℤ) (day : ℤ) → flat_map (row_text default_writer) (map (λ d. day_text d ∷ []) (days ++ day ∷ [])) ≡ flat_map (row_text default_writer) (map (λ d. day_text d ∷ []) days) ++ day_record day
 days-snoc [] day = append-nil (day_record day)
 days-snoc (d ∷ ds) day = ap (λ t. day_record d ++ t) (days-snoc ds day) ∙ sym (append_assoc (day_record d) _ (day_record day))
 
+-- the layout of one day more
 layout-snoc : (column : List ℕ) (days : List ℤ) (day : ℤ) → layout column (days ++ day ∷ []) ≡ layout column days ++ day_record day
 unfolding layout
 layout-snoc column days day =

@@ -19,6 +19,7 @@ use Rattle.og_session.specs.declared.action.Action.TheVariants as actions
 abbrev alone : List ℕ → List ℕ → List ℤ → List Table
 alone name column rows = record { name = name; column = column; rows = rows } ∷ []
 
+-- a name is itself
 same_name : (name : List ℕ) → bytes_eq name name ≡ true
 same_name name = (bytes_eq-Decides name name).1 refl
 

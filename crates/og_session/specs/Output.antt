@@ -47,9 +47,11 @@ IsRun words = words ≡ codes "run" ∷ []
 abbrev pub source_limit : ℕ
 source_limit = 16_777_216
 
+-- the line where the words are no command
 abbrev pub words_line : List ℕ
 words_line = codes "fault words" ++ 10 ∷ []
 
+-- the line of a source with too many bytes
 abbrev pub too_long_line : List ℕ
 too_long_line = codes "fault source too long" ++ 10 ∷ []
 
