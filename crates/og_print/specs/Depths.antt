@@ -1,5 +1,5 @@
 -- How deep the sorts of lexemes nest.
-use Rattle.std.specs.Prelude.{◌≡◌, ◌≤◌, ◌||◌, ℕ, suc, Bool, true, false, not, List, [], ◌∷◌, nat_lt, map, if◌then◌else◌}
+use Rattle.std.specs.Prelude.{◌≡◌, ◌≤◌, ◌||◌, ℕ, suc, Bool, false, List, [], ◌∷◌, nat_lt, map, if◌then◌else◌}
 use Rattle.og_syntax.specs.declared.lexeme.Sort.{Sort}
 use Rattle.og_syntax.specs.declared.lexeme.Sort.TheVariants as k
 use Rattle.og_syntax.specs.declared.lexeme.Lexeme.{Lexeme}
@@ -32,13 +32,3 @@ pub record IsNoDeeper (first second : List Sort) : Type 0 where
   pub nested : (m n : ℕ) → m ≤ n → n ≤ 100 → nests n first ≡ false → nests m second ≡ false
   pub nots : number_of (is k.Not) second ≤ number_of (is k.Not) first
   pub set_words : number_of is_set_word second ≤ number_of is_set_word first
-
--- neither a parenthesis nor NOT nor a word between queries
-abbrev pub is_flat : Sort → Bool
-is_flat k.LeftParen = false
-is_flat k.RightParen = false
-is_flat k.Not = false
-is_flat k.Union = false
-is_flat k.Except = false
-is_flat k.Intersect = false
-is_flat _ = true

@@ -1,11 +1,10 @@
 -- Words that are read as they are written, and the lexemes that spell them.
-use Rattle.std.specs.Prelude.{◌≡◌, ◌×◌, ◌||◌, ℕ, ℤ, Bool, true, false, not, List, [], ◌∷◌, ⊤}
+use Rattle.std.specs.Prelude.{◌≡◌, ℕ, ℤ, Bool, true, false, List, [], ◌∷◌, ⊤}
 use Rattle.std.specs.Str.{IsUtf8}
 use Rattle.og_lex.specs.Bytes.{IsIn64}
 use Rattle.og_syntax.specs.declared.lexeme.Sort.{Sort}
 use Rattle.og_syntax.specs.declared.lexeme.Sort.TheVariants as k
 use Rattle.og_syntax.specs.declared.lexeme.Lexeme.{Lexeme}
-use Rattle.og_syntax.specs.Lexemes.{is}
 use Rattle.og_syntax.specs.Spans.{spelling, content, IsNameOf}
 use Rattle.og_value.specs.Words.{is_word, folded}
 use Rattle.og_parse.specs.Tokens.{sort_of_word}
