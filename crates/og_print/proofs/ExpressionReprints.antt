@@ -220,7 +220,7 @@ call_of_one : (f : Func) (x : ExprText) → expr_words (e.Call f (x ∷ [])) ≡
 call_of_one f x = expr_words-Call f (x ∷ []) ∙ ap (λ z. Plain (func_sort f) ∷ enclosed z) (append-nil (expr_words x))
 
 -- what is by a rule one level deeper is by the rule at any level that has room
-deeper : {A : Type 0} (printed : List ℕ) (P : ℕ → Rule A) (x : A) (vs : List Word)
+pub deeper : {A : Type 0} (printed : List ℕ) (P : ℕ → Rule A) (x : A) (vs : List Word)
     → ((d : ℕ) (seg tail : List Lexeme) → length seg < d → 0 < length tail → SpellAll printed seg vs → P (suc (below d)) (seg ++ tail) x tail)
     → (d : ℕ) (seg tail : List Lexeme) → length seg < d → 0 < length tail → SpellAll printed seg vs → P d (seg ++ tail) x tail
 deeper printed P x vs again zero seg tail short some sp = absurd (omega (arith, short))

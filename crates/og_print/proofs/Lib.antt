@@ -1,7 +1,10 @@
+pub mod ConditionReprints
 pub mod ExpressionReprints
 pub mod Names
 pub mod Nesting
+pub mod QueryReprints
 pub mod Reprints
+pub mod StatementReprints
 pub mod Texts
 pub mod TextsAgain
 pub mod TreeWords

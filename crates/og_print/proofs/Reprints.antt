@@ -55,7 +55,7 @@ spelled-sorts script (t ∷ ts) [] h = absurd h
 spelled-sorts script (t ∷ ts) (w ∷ ws) h = ap (λ a. a ∷ sorts_of ts) (spelled-sort script t w h.0) ∙ ap (λ rest. word_sort w ∷ rest) (spelled-sorts script ts ws h.1)
 
 -- no words have no lexemes
-none_spelled : (script : List ℕ) (seg tail : List Lexeme) → SpellAll script seg [] → tail ≡ seg ++ tail
+pub none_spelled : (script : List ℕ) (seg tail : List Lexeme) → SpellAll script seg [] → tail ≡ seg ++ tail
 none_spelled script [] tail h = refl
 none_spelled script (t ∷ ts) tail h = absurd h
 
@@ -424,15 +424,15 @@ in_round P script seg ws tail x r h =
     (x, r.close ∷ tail, h, (tt, tail, (r.close, refl, r.closes), (refl, refl))))
 
 -- the front of what is in parentheses
-pub record Outer (script : List ℕ) (ts : List Lexeme) (front mid rest : List Lexeme) : Type 0 where
+pub record Outer (ts : List Lexeme) (front mid rest : List Lexeme) : Type 0 where
   pub open_ : Lexeme
   pub close : Lexeme
   pub split : ts ≡ (open_ ∷ front ++ close ∷ []) ++ rest
   pub sorts : sorts_of (open_ ∷ front ++ close ∷ []) ≡ round (sorts_of front)
 
 -- the lexemes in parentheses, with these round them
-pub outer : (script : List ℕ) (ts inside front mid rest : List Lexeme) → Tok k.LeftParen ts tt inside → inside ≡ front ++ mid → Tok k.RightParen mid tt rest → Outer script ts front mid rest
-outer script ts inside front mid rest o e c = record {
+pub outer : (ts inside front mid rest : List Lexeme) → Tok k.LeftParen ts tt inside → inside ≡ front ++ mid → Tok k.RightParen mid tt rest → Outer ts front mid rest
+outer ts inside front mid rest o e c = record {
   open_ = o.0;
   close = c.0;
   split = o.1 ∙ ap (λ s. o.0 ∷ s) (e ∙ ap (λ m. front ++ m) c.1 ∙ sym (append_assoc front (c.0 ∷ []) rest));
@@ -452,7 +452,7 @@ again-single_by {A} {script} {printed} {P} {P'} {f} lower bound E = record {
         let a = E.redo inside x mid proper h.3.2 in
         let same : y ≡ x = last.3.0 in
         let close : Tok k.RightParen mid tt rest = subst (λ r. Tok k.RightParen mid tt r) (sym last.3.1) last.2 in
-        let o = outer script ts inside a.front mid rest h.2 a.split close in
+        let o = outer ts inside a.front mid rest h.2 a.split close in
         record {
           front = o.open_ ∷ a.front ++ o.close ∷ [];
           split = o.split;

@@ -1,4 +1,4 @@
-use Rattle.og_print.proofs.ExpressionReprints.{again-expr}
+use Rattle.og_print.proofs.StatementReprints.{again-body}
 use Rattle.og_print.proofs.script.print_script.Goals as goal
 
 pub returns : goal.returns
