@@ -1,5 +1,6 @@
 pub mod ConditionReprints
 pub mod ExpressionReprints
+pub mod Lexes
 pub mod Names
 pub mod Nesting
 pub mod QueryReprints
