@@ -65,7 +65,7 @@ word_kind (Word.Whole n) = kinds.Number n
 word_kind (Word.Quoted z) = kinds.Text
 
 -- whether the bytes of a sort are a token of it
-abbrev is_read : Sort → Option Symbol → Bool
+abbrev pub is_read : Sort → Option Symbol → Bool
 is_read a (Some symbol) = bytes_eq (sort_text a) (symbol_text symbol) && (not (makes_longer symbol (blank_after a)) && same_sort (sort_of_symbol symbol) a)
 is_read a None = is_word (sort_text a) && (not (is_in_word (blank_after a)) && same_sort (sort_of_word (sort_text a)) a)
 
@@ -75,7 +75,7 @@ unfolding same_sort sort_of_word
 all_read = refl
 
 -- a sort with a spelling is read
-read_sort : (a : Sort) → (is_inner a || is k.Semicolon a) ≡ true → is_read a (symbol_of a) ≡ true
+pub read_sort : (a : Sort) → (is_inner a || is k.Semicolon a) ≡ true → is_read a (symbol_of a) ≡ true
 read_sort a e = so (is_inner a || is k.Semicolon a) (is_read a (symbol_of a)) (every_sort (λ a. implies (is_inner a || is k.Semicolon a) (is_read a (symbol_of a))) all_read a) e
 
 -- bytes that may stand in words are of that class
@@ -157,7 +157,7 @@ number_token (negsuc n) b rest fits stop =
 -- ---- all words
 
 -- a sort of a printed word has a spelling
-spelled_sort : (a : Sort) → Comes (Plain a) → (is_inner a || is k.Semicolon a) ≡ true
+pub spelled_sort : (a : Sort) → Comes (Plain a) → (is_inner a || is k.Semicolon a) ≡ true
 unfolding same_sort
 spelled_sort a (inl h) = or_left (is_inner a) (is k.Semicolon a) h
 spelled_sort a (inr h) = sort_is a h

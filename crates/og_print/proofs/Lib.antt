@@ -3,6 +3,8 @@ pub mod ExpressionReprints
 pub mod Lexes
 pub mod Names
 pub mod Nesting
+pub mod PrintedScripts
+pub mod PrintedTokens
 pub mod QueryReprints
 pub mod Reprints
 pub mod StatementReprints

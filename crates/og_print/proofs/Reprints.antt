@@ -41,7 +41,7 @@ spelled-length script (t ∷ ts) [] h = absurd h
 spelled-length script (t ∷ ts) (w ∷ ws) h = ap suc (spelled-length script ts ws h.1)
 
 -- a lexeme has the sort of its word
-spelled-sort : (script : List ℕ) (t : Lexeme) (w : Word) → Spells script t w → t.sort ≡ word_sort w
+pub spelled-sort : (script : List ℕ) (t : Lexeme) (w : Word) → Spells script t w → t.sort ≡ word_sort w
 spelled-sort script t (Word.Plain sort) h = h
 spelled-sort script t (Word.Named name) h = h.0
 spelled-sort script t (Word.Whole n) h = h.0
