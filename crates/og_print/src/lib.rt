@@ -8,4 +8,7 @@ mod script;
 mod statements;
 mod words;
 
+pub use script::print_script;
 
+#[cfg(test)]
+mod tests;
