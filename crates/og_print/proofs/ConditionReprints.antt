@@ -1,10 +1,9 @@
 -- Conditions are by their rules again when they are printed.
-use Rattle.std.proofs.Common.{◌≡◌, ◌⊎◌, ◌<◌, ◌≤◌, ◌+◌, inl, inr, ℕ, zero, suc, Bool, true, false, List, [], ◌∷◌, ◌++◌, length, map, Option, Some, None, refl, sym, ap, ◌∙◌, subst, append_assoc, length-append, arith}
+use Rattle.std.proofs.Common.{◌≡◌, ◌⊎◌, ◌+◌, inl, inr, ℕ, zero, suc, true, List, [], ◌∷◌, ◌++◌, length, map, refl, sym, ap, ◌∙◌, subst, append_assoc, length-append, arith}
 use Rattle.og_value.specs.declared.term.Cmp.{Cmp}
 use Rattle.og_value.specs.declared.term.Cmp.TheVariants as cmp
 use Rattle.og_value.specs.declared.term.Pred.{Pred}
 use Rattle.og_value.specs.declared.term.Pred.TheVariants as pred
-use Rattle.og_syntax.specs.declared.lexeme.Sort.{Sort}
 use Rattle.og_syntax.specs.declared.lexeme.Sort.TheVariants as k
 use Rattle.og_syntax.specs.declared.lexeme.Lexeme.{Lexeme}
 use Rattle.og_syntax.specs.declared.tree.ExprText.{ExprText}
@@ -18,14 +17,14 @@ use Rattle.og_syntax.specs.Rules as rules_
 use Rattle.og_syntax.specs.Grammar.{IsExpr, IsConjOf, IsCondOf, IsCompare, IsRelate, IsRelation, IsAtomOf, IsNegIn, IsCond}
 use Rattle.og_parse.specs.Depth.{opened_after}
 use Rattle.og_print.specs.declared.conditions.Place.TheVariants as place
-use Rattle.og_print.specs.Words.{Word, Plain, word_sort, each, joined, behind, enclosed}
+use Rattle.og_print.specs.Words.{Word, Plain, word_sort, enclosed}
 use Rattle.og_print.specs.Expressions.{expr_words}
-use Rattle.og_print.specs.Conditions.{cmp_sort, pred_sort, relation_words, cond_words, parts_words}
-use Rattle.og_print.specs.Reprint.{SpellAll, AreProper}
+use Rattle.og_print.specs.Conditions.{cmp_sort, pred_sort, cond_words, parts_words}
+use Rattle.og_print.specs.Reprint.{AreProper}
 use Rattle.og_print.specs.Depths.{sorts_of, IsNoDeeper}
 use Rattle.og_print.proofs.Nesting.{round, no_deeper-round, no_deeper-bare}
 use Rattle.og_print.proofs.TreeWords.{cond_words-And, cond_words-Or, cond_words-Not, cond_words-Compare, cond_words-Relate, cond_words-Empty, cond_words-Contains}
-use Rattle.og_print.proofs.Reprints.{Part, Reprints, Outer, outer, below, again-pure, again-bind, again-under, again-map, again-or, again-counted, again-joined, again-after, again-past, again-tok, again-worded, again-single, again-pair, round_spelled, in_round, well-enclosed, enclosed_sorts, below_bound, recast}
+use Rattle.og_print.proofs.Reprints.{Part, Reprints, outer, below, again-pure, again-bind, again-under, again-map, again-or, again-counted, again-joined, again-after, again-past, again-tok, again-worded, again-single, again-pair, round_spelled, in_round, well-enclosed, enclosed_sorts, below_bound, recast}
 use Rattle.og_print.proofs.ExpressionReprints.{again-expr, deeper}
 
 -- ---- relations
@@ -245,10 +244,10 @@ kept printed ts inside mid x rest open_ close e a =
       well = well-enclosed a.vs a.well;
       no_deeper = subst (λ s. IsNoDeeper s (map word_sort (enclosed a.vs))) (sym o.sorts) (subst (λ s. IsNoDeeper (round (sorts_of a.front)) s) (sym (enclosed_sorts a.vs)) (no_deeper-round a.no_deeper));
       again = deeper printed (IsNegIn printed true) x (enclosed a.vs) (λ d seg tail short some sp.
-        let r = round_spelled printed seg a.vs sp in
-        let sum : length seg ≡ suc (length r.inside + 1) = ap length r.whole ∙ ap suc (length-append r.inside (r.close ∷ [])) in
-        inr (inl (in_round (IsCondOf (IsNegIn printed true (below d))) printed seg a.vs tail x r
-        (a.again (below d) r.inside (r.close ∷ tail) (below_bound d (length r.inside) (omega (arith, sum, short))) (omega arith) r.spelled))));
+          let r = round_spelled printed seg a.vs sp in
+          let sum : length seg ≡ suc (length r.inside + 1) = ap length r.whole ∙ ap suc (length-append r.inside (r.close ∷ [])) in
+          inr (inl (in_round (IsCondOf (IsNegIn printed true (below d))) printed seg a.vs tail x r
+          (a.again (below d) r.inside (r.close ∷ tail) (below_bound d (length r.inside) (omega (arith, sum, short))) (omega arith) r.spelled))));
     }
 
 -- a condition in parentheses at the three places

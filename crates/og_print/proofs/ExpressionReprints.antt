@@ -1,13 +1,6 @@
 -- Names, literals and expressions are by their rules again when they are printed.
-use Rattle.std.proofs.Common.{◌≡◌, ◌<◌, ◌≤◌, ◌+◌, ◌-◌, inl, inr, ℕ, ℤ, zero, suc, Bool, true, false, ◌&&◌, List, [], ◌∷◌, ◌++◌, length, map, nat_lt, Option, Some, None, refl, sym, ap, ◌∙◌, subst, append_assoc, append-nil, arith}
-use Rattle.std.specs.Char.{to_ascii_lowercase}
-use Rattle.std.specs.Str.{str_eq_ignore_ascii_case, bytes_eq, IsUtf8}
-use Rattle.std.specs.List.{list_all}
-use Rattle.std.proofs.lemmas.Str.Ascii.{lowercase-lowercase}
-use Rattle.og_base.specs.Calendar.{IsDayText, day_text}
-use Rattle.og_base.specs.Letters.{begins_word, is_in_word}
-use Rattle.og_time.specs.Point.{Point, IsPointText, point_text}
-use Rattle.og_time.specs.Period.{Period, IsPeriodText, period_text}
+use Rattle.std.proofs.Common.{◌≡◌, ◌<◌, inl, inr, ℕ, zero, suc, true, false, List, [], ◌∷◌, ◌++◌, length, nat_lt, Option, Some, None, refl, sym, ap, ◌∙◌, subst, append-nil, arith}
+use Rattle.std.specs.Str.{IsUtf8}
 use Rattle.og_value.specs.Words.{is_word, folded}
 use Rattle.og_value.specs.declared.value.Value.{Value}
 use Rattle.og_value.specs.declared.value.Value.TheVariants as v
@@ -23,19 +16,19 @@ use Rattle.og_syntax.specs.Lexemes.{is, same_sort}
 use Rattle.og_syntax.specs.Meanings.{func_of_two, func_of_one}
 use Rattle.og_syntax.specs.Rules.{Rule, ◌or◌, Given, Never, Tok, One, Worded, Optional, Past, Pair, Single}
 use Rattle.og_syntax.specs.Rules as rules_
-use Rattle.og_syntax.specs.Spans.{spelling, content, IsNameOf, IsTextOf, IsOfForm, IsDayValue, IsPointValue, IsPeriodValue}
+use Rattle.og_syntax.specs.Spans.{spelling, IsDayValue, IsPointValue, IsPeriodValue}
 use Rattle.og_syntax.specs.Grammar.{IsName, IsQuoted, IsText, IsDayLit, IsPointLit, IsPeriodLit, IsLit, IsColumn, IsExprIn, IsExpr}
 use Rattle.og_parse.specs.Depth.{opened_after, is_set_word}
-use Rattle.og_parse.specs.Tokens.{reserved, sort_in, sort_of_word}
-use Rattle.og_print.specs.Words.{Word, Plain, Named, Whole, Quoted, word_sort, enclosed, listed}
+use Rattle.og_parse.specs.Tokens.{sort_of_word}
+use Rattle.og_print.specs.Words.{Word, Plain, Named, Whole, Quoted, enclosed}
 use Rattle.og_print.specs.Expressions.{lit_words, func_sort, expr_words}
-use Rattle.og_print.specs.Reprint.{IsWell, AreWell, SpellAll, Spells, AreProper, IsProper, is_inner}
-use Rattle.og_print.specs.Depths.{sorts_of, number_of, IsNoDeeper}
+use Rattle.og_print.specs.Reprint.{SpellAll, AreProper, IsProper, is_inner}
+use Rattle.og_print.specs.Depths.{number_of, IsNoDeeper}
 use Rattle.og_print.proofs.Names.{folded-word, folded-folded, folded-sort}
 use Rattle.og_print.proofs.Nesting.{low, neither, no_deeper-same}
 use Rattle.og_print.proofs.TextsAgain.{fixed_again, point_again, period_again}
 use Rattle.og_print.proofs.TreeWords.{expr_words-Column, expr_words-Lit, expr_words-Call}
-use Rattle.og_print.proofs.Reprints.{Part, Reprints, one_spelled, two_spelled, recast, again-pure, again-bind, again-under, again-map, again-or, again-like, again-counted, again-optional, again-after, again-past, again-tok, again-worded, again-single, again-pair, below}
+use Rattle.og_print.proofs.Reprints.{Part, Reprints, one_spelled, two_spelled, recast, again-pure, again-bind, again-under, again-map, again-or, again-counted, again-optional, again-past, again-tok, again-worded, again-single, again-pair, below}
 
 -- ---- names, numbers and texts
 
@@ -44,28 +37,27 @@ pub again-name : (script printed : List ℕ) → Reprints script printed (IsName
 unfolding IsName
 again-name script printed = record {
   redo = λ ts x rest p h.
-        let t = h.0 in
-        let word : is_word (spelling script t) ≡ true = h.3.0.0 in
-        let is : x ≡ folded (spelling script t) = h.3.0.1 in
-        let proper : IsProper script t = (subst (AreProper script) h.2.0 p).0 in
-        record {
-          front = t ∷ [];
-          split = h.2.0 ∙ ap (λ m. t ∷ m) (sym h.3.1);
-          vs = Named x ∷ [];
-          words = refl;
-          well = (
-            (
-              ap is_word is ∙ folded-word (spelling script t) word,
-              ap folded is ∙ folded-folded (spelling script t) ∙ sym is,
-              ap sort_of_word is ∙ folded-sort (spelling script t) ∙ proper.name h.2.1,
-            ),
-            tt,
-          );
-          no_deeper = subst (λ a. IsNoDeeper (a ∷ []) (k.Name ∷ [])) (sym h.2.1) (no_deeper-same k.Name (λ n. refl));
-          again = λ d seg tail short some sp.
-              let o = one_spelled printed seg (Named x) sp in (o.lexeme, tail, (ap (λ s. s ++ tail) o.whole, o.spells.0), (o.spells.1, refl));
-        }
-  ;
+      let t = h.0 in
+      let word : is_word (spelling script t) ≡ true = h.3.0.0 in
+      let is : x ≡ folded (spelling script t) = h.3.0.1 in
+      let proper : IsProper script t = (subst (AreProper script) h.2.0 p).0 in
+      record {
+        front = t ∷ [];
+        split = h.2.0 ∙ ap (λ m. t ∷ m) (sym h.3.1);
+        vs = Named x ∷ [];
+        words = refl;
+        well = (
+          (
+            ap is_word is ∙ folded-word (spelling script t) word,
+            ap folded is ∙ folded-folded (spelling script t) ∙ sym is,
+            ap sort_of_word is ∙ folded-sort (spelling script t) ∙ proper.name h.2.1,
+          ),
+          tt,
+        );
+        no_deeper = subst (λ a. IsNoDeeper (a ∷ []) (k.Name ∷ [])) (sym h.2.1) (no_deeper-same k.Name (λ n. refl));
+        again = λ d seg tail short some sp.
+            let o = one_spelled printed seg (Named x) sp in (o.lexeme, tail, (ap (λ s. s ++ tail) o.whole, o.spells.0), (o.spells.1, refl));
+      };
 }
 
 -- the rule of a number
@@ -76,19 +68,18 @@ IsInt = rules_.Bind (One k.Number) (λ t. rules_.pure (v.Int t.number))
 again-number : (script printed : List ℕ) → Reprints script printed IsInt (λ d. IsInt) lit_words []
 again-number script printed = record {
   redo = λ ts x rest p h.
-        let t = h.0 in
-        let proper : IsProper script t = (subst (AreProper script) h.2.0 p).0 in
-        record {
-          front = t ∷ [];
-          split = h.2.0 ∙ ap (λ m. t ∷ m) (sym h.3.1);
-          vs = Whole t.number ∷ [];
-          words = ap lit_words h.3.0;
-          well = (proper.number h.2.1, tt);
-          no_deeper = subst (λ a. IsNoDeeper (a ∷ []) (k.Number ∷ [])) (sym h.2.1) (no_deeper-same k.Number (λ n. refl));
-          again = λ d seg tail short some sp.
-              let o = one_spelled printed seg (Whole t.number) sp in (o.lexeme, tail, (ap (λ s. s ++ tail) o.whole, o.spells.0), (h.3.0 ∙ ap v.Int (sym o.spells.1), refl));
-        }
-  ;
+      let t = h.0 in
+      let proper : IsProper script t = (subst (AreProper script) h.2.0 p).0 in
+      record {
+        front = t ∷ [];
+        split = h.2.0 ∙ ap (λ m. t ∷ m) (sym h.3.1);
+        vs = Whole t.number ∷ [];
+        words = ap lit_words h.3.0;
+        well = (proper.number h.2.1, tt);
+        no_deeper = subst (λ a. IsNoDeeper (a ∷ []) (k.Number ∷ [])) (sym h.2.1) (no_deeper-same k.Number (λ n. refl));
+        again = λ d seg tail short some sp.
+            let o = one_spelled printed seg (Whole t.number) sp in (o.lexeme, tail, (ap (λ s. s ++ tail) o.whole, o.spells.0), (h.3.0 ∙ ap v.Int (sym o.spells.1), refl));
+      };
 }
 
 -- a text
@@ -96,20 +87,19 @@ pub again-text : (script printed : List ℕ) → Reprints script printed (IsText
 unfolding IsText IsQuoted
 again-text script printed = record {
   redo = λ ts x rest p h.
-        let q = h.2 in
-        let t = q.0 in
-        record {
-          front = t ∷ [];
-          split = q.2.0 ∙ ap (λ m. t ∷ m) (sym (h.3.1 ∙ q.3.1));
-          vs = Quoted x ∷ [];
-          words = refl;
-          well = (subst IsUtf8 (sym h.3.0.1) h.3.0.0, tt);
-          no_deeper = subst (λ a. IsNoDeeper (a ∷ []) (k.Quoted ∷ [])) (sym q.2.1) (no_deeper-same k.Quoted (λ n. refl));
-          again = λ d seg tail short some sp.
-              let o = one_spelled printed seg (Quoted x) sp in
-              (x, tail, (o.lexeme, tail, (ap (λ s. s ++ tail) o.whole, o.spells.0), (sym o.spells.1, refl)), ((subst IsUtf8 (sym h.3.0.1) h.3.0.0, refl), refl));
-        }
-  ;
+      let q = h.2 in
+      let t = q.0 in
+      record {
+        front = t ∷ [];
+        split = q.2.0 ∙ ap (λ m. t ∷ m) (sym (h.3.1 ∙ q.3.1));
+        vs = Quoted x ∷ [];
+        words = refl;
+        well = (subst IsUtf8 (sym h.3.0.1) h.3.0.0, tt);
+        no_deeper = subst (λ a. IsNoDeeper (a ∷ []) (k.Quoted ∷ [])) (sym q.2.1) (no_deeper-same k.Quoted (λ n. refl));
+        again = λ d seg tail short some sp.
+            let o = one_spelled printed seg (Quoted x) sp in
+            (x, tail, (o.lexeme, tail, (ap (λ s. s ++ tail) o.whole, o.spells.0), (sym o.spells.1, refl)), ((subst IsUtf8 (sym h.3.0.1) h.3.0.0, refl), refl));
+      };
 }
 
 -- a word and a text of this property
@@ -123,25 +113,24 @@ pub again-marked : {A : Type 0} (script printed : List ℕ) (first second : Sort
 unfolding IsQuoted
 again-marked script printed first second R R' w inner flat same = record {
   redo = λ ts x rest p h.
-        let o = h.2 in
-        let z = h.3.0 in
-        let q = h.3.2 in
-        let t = q.0 in
-        let behind : AreProper script h.1 = (subst (AreProper script) o.1 p).1 in
-        let proper : IsProper script t = (subst (AreProper script) q.2.0 behind).0 in
-        let both = same z x h.3.3.0 in
-        record {
-          front = o.0 ∷ t ∷ [];
-          split = o.1 ∙ ap (λ m. o.0 ∷ m) (q.2.0 ∙ ap (λ m. t ∷ m) (sym (h.3.3.1 ∙ q.3.1)));
-          vs = Plain second ∷ Quoted z ∷ [];
-          words = both.0;
-          well = (inner, (subst IsUtf8 (sym q.3.0) (proper.text q.2.1), tt));
-          no_deeper = subst (λ a. IsNoDeeper (a ∷ t.sort ∷ []) (second ∷ k.Quoted ∷ [])) (sym o.2) (subst (λ a. IsNoDeeper (first ∷ a ∷ []) (second ∷ k.Quoted ∷ [])) (sym q.2.1) flat);
-          again = λ d seg tail short some sp.
-              let s = two_spelled printed seg (Plain second) (Quoted z) sp in
-              (tt, s.second ∷ tail, (s.first, ap (λ s. s ++ tail) s.whole, s.left), (z, tail, (s.second, tail, (refl, s.right.0), (sym s.right.1, refl)), (both.1, refl)));
-        }
-  ;
+      let o = h.2 in
+      let z = h.3.0 in
+      let q = h.3.2 in
+      let t = q.0 in
+      let behind : AreProper script h.1 = (subst (AreProper script) o.1 p).1 in
+      let proper : IsProper script t = (subst (AreProper script) q.2.0 behind).0 in
+      let both = same z x h.3.3.0 in
+      record {
+        front = o.0 ∷ t ∷ [];
+        split = o.1 ∙ ap (λ m. o.0 ∷ m) (q.2.0 ∙ ap (λ m. t ∷ m) (sym (h.3.3.1 ∙ q.3.1)));
+        vs = Plain second ∷ Quoted z ∷ [];
+        words = both.0;
+        well = (inner, (subst IsUtf8 (sym q.3.0) (proper.text q.2.1), tt));
+        no_deeper = subst (λ a. IsNoDeeper (a ∷ t.sort ∷ []) (second ∷ k.Quoted ∷ [])) (sym o.2) (subst (λ a. IsNoDeeper (first ∷ a ∷ []) (second ∷ k.Quoted ∷ [])) (sym q.2.1) flat);
+        again = λ d seg tail short some sp.
+            let s = two_spelled printed seg (Plain second) (Quoted z) sp in
+            (tt, s.second ∷ tail, (s.first, ap (λ s. s ++ tail) s.whole, s.left), (z, tail, (s.second, tail, (refl, s.right.0), (sym s.right.1, refl)), (both.1, refl)));
+      };
 }
 
 -- two sorts that nest nothing, in place of two others

@@ -1,5 +1,5 @@
 -- The bytes of words are lexed as these words.
-use Rattle.std.proofs.Common.{◌≡◌, ◌≢◌, ◌⊎◌, ◌+◌, ◌-◌, ◌*◌, ◌^◌, ◌<◌, ◌≤◌, ◌==◌, ◌&&◌, ◌||◌, inl, inr, ℕ, ℤ, pos, negsuc, neg_ℤ, zero, suc, Bool, true, false, not, List, [], ◌∷◌, ◌++◌, length, take, drop, map, slice_index, Option, Some, None, refl, sym, ap, ap₂, ◌∙◌, subst, append_assoc, length-append, arith}
+use Rattle.std.proofs.Common.{◌≡◌, ◌⊎◌, ◌+◌, ◌-◌, ◌*◌, ◌<◌, ◌==◌, ◌&&◌, ◌||◌, inl, inr, ℕ, ℤ, pos, negsuc, neg_ℤ, suc, Bool, true, false, not, List, [], ◌∷◌, length, Option, Some, None, refl, sym, ap, ap₂, ◌∙◌, subst, arith}
 use Rattle.std.proofs.lemmas.Int.{ints}
 use Rattle.std.proofs.lemmas.Bool.{le-leb, ne_eqb}
 use Rattle.std.proofs.lemmas.Fmt.{decimal_is_IsNumeral}
@@ -10,14 +10,13 @@ use Rattle.std.proofs.Math.Dec.{leb}
 use Rattle.std.specs.Char.{is_ascii_digit, digit_value}
 use Rattle.std.specs.Fmt.{decimal, signed_decimal}
 use Rattle.std.specs.List.{list_all}
-use Rattle.std.specs.Str.{bytes_eq, IsUtf8}
-use Rattle.std.specs.Str.Parse.{AllDigits, digits_value_after, digits_value}
+use Rattle.std.specs.Str.{bytes_eq}
+use Rattle.std.specs.Str.Parse.{AllDigits, digits_value_after}
 use Rattle.og_base.specs.Letters.{begins_word, is_in_word}
-use Rattle.og_lex.specs.Bytes.{is_blank, is_quote, AreAll, Stops, IsRun, has_sign, unsigned, value_after, value_of, signed, IsIn64, doubled, quoted}
-use Rattle.og_lex.specs.Grammar.{IsWord, IsNumeral, IsNumber, IsQuoted, symbol_text, makes_longer, IsSymbol, IsToken, Reads, IsLexed}
+use Rattle.og_lex.specs.Bytes.{is_blank, AreAll, IsRun, has_sign, unsigned, value_after, signed, IsIn64}
+use Rattle.og_lex.specs.Grammar.{IsWord, IsNumber, symbol_text, makes_longer, IsToken}
 use Rattle.og_lex.specs.declared.symbol.Symbol.{Symbol}
 use Rattle.og_lex.specs.declared.symbol.Symbol.TheVariants as symbols
-use Rattle.og_lex.specs.declared.token.Token.{Token}
 use Rattle.og_lex.specs.declared.token.TokenKind.{TokenKind}
 use Rattle.og_lex.specs.declared.token.TokenKind.TheVariants as kinds
 use Rattle.og_value.specs.Words.{is_word}
@@ -25,7 +24,7 @@ use Rattle.og_syntax.specs.declared.lexeme.Sort.{Sort}
 use Rattle.og_syntax.specs.declared.lexeme.Sort.TheVariants as k
 use Rattle.og_syntax.specs.Lexemes.{is, same_sort}
 use Rattle.og_syntax.proofs.EverySort.{everywhere, every_sort}
-use Rattle.og_syntax.proofs.Exact.{implies, so, left_of, right_of, not_true, is_sort, or_left, or_right, same_self}
+use Rattle.og_syntax.proofs.Exact.{implies, so, left_of, right_of, not_true, or_left}
 use Rattle.og_parse.specs.Tokens.{sort_of_word, sort_of_symbol}
 use Rattle.og_print.specs.Words.{Word, Plain, Named, Whole, Quoted, sort_text, word_text, word_sort, blank_after}
 use Rattle.og_print.specs.Reprint.{is_inner, IsWell}

@@ -1,5 +1,5 @@
 -- Lists of sorts that nest no deeper than others.
-use Rattle.std.proofs.Common.{◌≡◌, ◌≤◌, ◌+◌, ◌-◌, ◌||◌, ℕ, suc, Bool, true, false, if◌then◌else◌, List, [], ◌∷◌, ◌++◌, nat_lt, refl, sym, ap, ◌∙◌, subst, arith}
+use Rattle.std.proofs.Common.{◌≡◌, ◌≤◌, ◌+◌, ◌-◌, ◌||◌, ℕ, suc, Bool, true, false, if◌then◌else◌, List, [], ◌∷◌, ◌++◌, nat_lt, refl, sym, ap, ◌∙◌, arith}
 use Rattle.std.proofs.lemmas.Bool.{le-ltb, ltb-false}
 use Rattle.og_syntax.specs.declared.lexeme.Sort.{Sort}
 use Rattle.og_syntax.specs.declared.lexeme.Sort.TheVariants as k
@@ -101,8 +101,7 @@ closes n a flat =
 -- what stands in parentheses, one level deeper
 inner : (n : ℕ) (a : List Sort) → nests n (round a) ≡ false → (n + 1 ≤ 100) × (nests (n + 1) a ≡ false)
 inner n a h =
-    let rest : nests (n + 1) (a ++ k.RightParen ∷ []) ≡ false = not_second (nat_lt 100 (n + 1)) _ h in
-    (
+    let rest : nests (n + 1) (a ++ k.RightParen ∷ []) ≡ false = not_second (nat_lt 100 (n + 1)) _ h in (
       ltb-false 100 (n + 1) (not_first (nat_lt 100 (n + 1)) _ h),
       not_first (nests (n + 1) a) (nests (opened_by (n + 1) a) (k.RightParen ∷ [])) (sym (nests-append (n + 1) a (k.RightParen ∷ [])) ∙ rest),
     )

@@ -1,32 +1,29 @@
 -- What is printed for a script is a script of the same statements.
-use Rattle.std.proofs.Common.{◌≡◌, ◌⊎◌, ◌+◌, ◌<◌, ◌≤◌, ◌&&◌, ◌||◌, inl, inr, ℕ, zero, suc, Bool, true, false, not, if◌then◌else◌, nat_lt, List, [], ◌∷◌, ◌++◌, length, map, refl, sym, ap, ◌∙◌, subst, append_assoc, append-nil, length-append, arith}
+use Rattle.std.proofs.Common.{◌≡◌, ◌+◌, ◌≤◌, ◌||◌, inl, inr, ℕ, suc, Bool, true, false, not, if◌then◌else◌, nat_lt, List, [], ◌∷◌, ◌++◌, length, map, refl, sym, ap, ◌∙◌, subst, append_assoc, arith}
 use Rattle.std.specs.Bool.{⊤}
 use Rattle.std.specs.Prelude.{IfOk, Result, Ok, Err}
 use Rattle.std.proofs.lemmas.Bool.{le-ltb, ltb-false}
 use Rattle.std.proofs.lemmas.List.{map-append}
-use Rattle.og_lex.specs.Grammar.{IsLexed, Reads}
-use Rattle.og_lex.specs.declared.token.Token.{Token}
+use Rattle.og_lex.specs.Grammar.{Reads}
 use Rattle.og_syntax.specs.declared.lexeme.Sort.{Sort}
 use Rattle.og_syntax.specs.declared.lexeme.Sort.TheVariants as k
 use Rattle.og_syntax.specs.declared.lexeme.Lexeme.{Lexeme}
 use Rattle.og_syntax.specs.declared.tree.Stmt.{Stmt}
 use Rattle.og_syntax.specs.Lexemes.{is, same_sort}
-use Rattle.og_syntax.specs.Rules.{Tok}
-use Rattle.og_syntax.proofs.EverySort.{everywhere, every_sort}
+use Rattle.og_syntax.proofs.EverySort.{every_sort}
 use Rattle.og_syntax.proofs.Exact.{implies, so, not_true, same_self}
 use Rattle.og_parse.specs.Depth.{opened_after, is_nested, count_of, is_set_word, is_too_deep}
-use Rattle.og_parse.specs.Statements.{IsBody, IsStatement, IsWhole}
-use Rattle.og_parse.specs.Script.{glued, pieces, IsGood, AreGood, IsScript}
+use Rattle.og_parse.specs.Statements.{IsBody, IsStatement}
+use Rattle.og_parse.specs.Script.{glued, pieces, IsGood, AreGood}
 use Rattle.og_parse.specs.Tokens.{lexemes_of}
-use Rattle.og_print.specs.Words.{Word, Plain, Named, Whole, Quoted, word_sort, each}
+use Rattle.og_print.specs.Words.{Word, Plain, word_sort, each}
 use Rattle.og_print.specs.Statements.{body_words, stmt_words, script_text}
 use Rattle.og_print.specs.Printed.{IsTextOf, IsPrintable}
-use Rattle.og_print.specs.Reprint.{is_inner, IsWell, AreWell, Spells, SpellAll, AreProper}
+use Rattle.og_print.specs.Reprint.{is_inner, IsWell, AreWell, SpellAll, AreProper}
 use Rattle.og_print.specs.Depths.{sorts_of, nests, number_of, IsNoDeeper}
 use Rattle.og_print.proofs.Nesting.{not_first, not_second, neither, no_deeper-same, no_deeper-append}
 use Rattle.og_print.proofs.Reprints.{halves, one_spelled, spelled-sort, spelled-sorts}
 use Rattle.og_print.proofs.StatementReprints.{again-body}
-use Rattle.og_print.proofs.Lexes.{Comes}
 use Rattle.og_print.proofs.PrintedTokens.{text_of, with_words-is, tokens_from, AllCome, words_read, words_spelled, proper-reads}
 
 -- ---- depths
@@ -116,10 +113,9 @@ stmt_again script printed p x proper h =
       good = λ seg t sp e.
           let spelled : SpellAll printed seg a.vs = subst (SpellAll printed seg) a.words sp in
           let second : sorts_of (seg ++ t ∷ []) ≡ map word_sort a.vs ++ k.Semicolon ∷ [] =
-              map-append (λ t. t.sort) seg (t ∷ []) ∙ ap (λ b. sorts_of seg ++ b ∷ []) e ∙ ap (λ z. z ++ k.Semicolon ∷ []) (spelled-sorts printed seg a.vs spelled) in
+          map-append (λ t. t.sort) seg (t ∷ []) ∙ ap (λ b. sorts_of seg ++ b ∷ []) e ∙ ap (λ z. z ++ k.Semicolon ∷ []) (spelled-sorts printed seg a.vs spelled) in
           let deeper : IsNoDeeper (sorts_of p) (sorts_of (seg ++ t ∷ [])) =
-              subst (λ z. IsNoDeeper z (sorts_of (seg ++ t ∷ []))) (sym first) (subst (λ z. IsNoDeeper (sorts_of a.front ++ k.Semicolon ∷ []) z) (sym second) (no_deeper-append a.no_deeper (no_deeper-same k.Semicolon (λ n. refl)))) in
-          (
+          subst (λ z. IsNoDeeper z (sorts_of (seg ++ t ∷ []))) (sym first) (subst (λ z. IsNoDeeper (sorts_of a.front ++ k.Semicolon ∷ []) z) (sym second) (no_deeper-append a.no_deeper (no_deeper-same k.Semicolon (λ n. refl)))) in (
             not_deeper p (seg ++ t ∷ []) deeper h.0,
             (x, t ∷ [], a.again (suc (length seg)) seg (t ∷ []) (omega arith) (omega arith) spelled, (tt, [], (t, refl, e), (refl, refl))),
           );

@@ -1,11 +1,11 @@
 -- The tokens of printed words, and the lexemes of any script.
-use Rattle.std.proofs.Common.{◌≡◌, ◌⊎◌, ◌+◌, ◌-◌, ◌<◌, ◌≤◌, ◌==◌, ◌&&◌, ◌||◌, inl, inr, ℕ, ℤ, pos, zero, suc, Bool, true, false, not, if◌then◌else◌, List, [], ◌∷◌, ◌++◌, length, take, drop, map, Option, Some, None, refl, sym, ap, ap₂, ◌∙◌, subst, append_assoc, append-nil, length-append, eqb-true, arith}
+use Rattle.std.proofs.Common.{◌≡◌, ◌+◌, ◌-◌, ◌==◌, ◌||◌, inl, inr, ℕ, ℤ, pos, Bool, true, false, not, if◌then◌else◌, List, [], ◌∷◌, ◌++◌, length, take, drop, Option, Some, None, refl, sym, ap, ap₂, ◌∙◌, subst, append_assoc, append-nil, length-append, eqb-true, arith}
 use Rattle.std.proofs.lemmas.Int.{ints}
 use Rattle.std.specs.Bool.{⊤}
 use Rattle.std.specs.List.{list_all}
 use Rattle.std.specs.Str.{str_eq_ignore_ascii_case, IsUtf8}
-use Rattle.og_lex.specs.Bytes.{is_quote, IsIn64, doubled, quoted}
-use Rattle.og_lex.specs.Grammar.{IsToken, Reads, IsLexed}
+use Rattle.og_lex.specs.Bytes.{IsIn64, doubled, quoted}
+use Rattle.og_lex.specs.Grammar.{IsToken, Reads}
 use Rattle.og_lex.specs.declared.symbol.Symbol.{Symbol}
 use Rattle.og_lex.specs.declared.symbol.Symbol.TheVariants as symbols
 use Rattle.og_lex.specs.declared.token.Token.{Token}
@@ -15,13 +15,12 @@ use Rattle.og_lex.proofs.Runs.{take-joined, drop-joined}
 use Rattle.og_value.specs.Words.{is_word, folded}
 use Rattle.og_syntax.specs.declared.lexeme.Sort.{Sort}
 use Rattle.og_syntax.specs.declared.lexeme.Sort.TheVariants as k
-use Rattle.og_syntax.specs.declared.lexeme.Lexeme.{Lexeme}
 use Rattle.og_syntax.specs.Lexemes.{is, same_sort}
-use Rattle.og_syntax.specs.Spans.{spelling, singled, inside, content, IsNameOf}
+use Rattle.og_syntax.specs.Spans.{spelling, singled, inside, content}
 use Rattle.og_syntax.proofs.Exact.{left_of, right_of, is_sort, not_true}
 use Rattle.og_parse.specs.Tokens.{reserved, sort_in, sort_of_word, sort_of_symbol, at_token, lexeme_by, lexeme_of, lexemes_of}
 use Rattle.og_print.specs.Words.{Word, Plain, Named, Whole, Quoted, sort_text, word_text, word_sort, blank_after, with_word, with_words}
-use Rattle.og_print.specs.Reprint.{is_inner, IsWell, Spells, SpellAll, IsProper, AreProper}
+use Rattle.og_print.specs.Reprint.{Spells, SpellAll, IsProper, AreProper}
 use Rattle.og_print.proofs.Lexes.{Comes, symbol_of, kind_by, word_kind, is_read, read_sort, spelled_sort, word_token_of, blank}
 
 -- ---- texts
@@ -129,8 +128,7 @@ words_spelled script before (w ∷ ws) e h =
     let z = word_text w in
     let b = blank_after (word_sort w) in
     let next : script ≡ (before ++ z ++ b ∷ []) ++ text_of ws = e ∙ sym (append_assoc before z (b ∷ text_of ws)) ∙ sym (append_assoc (before ++ z) (b ∷ []) (text_of ws)) in
-    let count : length (before ++ z ++ b ∷ []) ≡ length before + length z + 1 = omega (arith, length-append (before ++ z) (b ∷ []), length-append before z) in
-    (
+    let count : length (before ++ z ++ b ∷ []) ≡ length before + length z + 1 = omega (arith, length-append (before ++ z) (b ∷ []), length-append before z) in (
       spells_word script before (b ∷ text_of ws) w (record { kind = word_kind w; start = length before; end = length before + length z }) e refl refl refl h.0,
       subst (λ at. SpellAll script (lexemes_of script (tokens_from at ws)) ws) count (words_spelled script (before ++ z ++ b ∷ []) ws next h.1),
     )
@@ -202,8 +200,7 @@ proper-reads script before e f (Reads.past_blank at b z tokens end rest h more) 
     proper-reads script (before ++ b ∷ []) (e ∙ sym (append_assoc before (b ∷ []) z)) (omega (arith, f, length-append before (b ∷ []))) more
 proper-reads script before e f (Reads.past_comment at y z tokens end rest h more) =
     proper-reads script (before ++ y) (e ∙ sym (append_assoc before y z)) (omega (arith, f, length-append before y)) more
-proper-reads script before e f (Reads.past_token at kind y z tokens end rest h more) =
-    (
-      proper_by script before y z (record { kind = kind; start = at; end = at + length y }) kind e (sym f) (ap (λ n. n + length y) (sym f)) h,
-      proper-reads script (before ++ y) (e ∙ sym (append_assoc before y z)) (omega (arith, f, length-append before y)) more,
-    )
+proper-reads script before e f (Reads.past_token at kind y z tokens end rest h more) = (
+  proper_by script before y z (record { kind = kind; start = at; end = at + length y }) kind e (sym f) (ap (λ n. n + length y) (sym f)) h,
+  proper-reads script (before ++ y) (e ∙ sym (append_assoc before y z)) (omega (arith, f, length-append before y)) more,
+)

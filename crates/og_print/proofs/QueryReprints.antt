@@ -1,37 +1,32 @@
 -- Queries are by their rules again when they are printed.
-use Rattle.std.proofs.Common.{◌≡◌, ◌⊎◌, ◌==◌, inl, inr, ℕ, zero, suc, Bool, true, false, if◌then◌else◌, List, [], ◌∷◌, ◌++◌, length, Option, Some, None, refl, sym, ap, ◌∙◌, subst, append_assoc, arith}
+use Rattle.std.proofs.Common.{◌≡◌, ◌==◌, inl, inr, ℕ, suc, Bool, true, false, if◌then◌else◌, List, [], ◌∷◌, ◌++◌, length, Option, Some, None, refl, sym, ap, ◌∙◌, subst, append_assoc, arith}
 use Rattle.og_value.specs.declared.term.SetOp.{SetOp}
 use Rattle.og_value.specs.declared.term.SetOp.TheVariants as op
 use Rattle.og_syntax.specs.declared.lexeme.Sort.{Sort}
 use Rattle.og_syntax.specs.declared.lexeme.Sort.TheVariants as k
 use Rattle.og_syntax.specs.declared.lexeme.Lexeme.{Lexeme}
 use Rattle.og_syntax.specs.declared.tree.CondText.{CondText}
-use Rattle.og_syntax.specs.declared.tree.CondText.TheVariants as c
-use Rattle.og_syntax.specs.declared.tree.ItemText.{ItemText}
 use Rattle.og_syntax.specs.declared.tree.ItemsText.{ItemsText}
 use Rattle.og_syntax.specs.declared.tree.ItemsText.TheVariants as i
 use Rattle.og_syntax.specs.declared.tree.FromText.{FromText}
 use Rattle.og_syntax.specs.declared.tree.SemiText.{SemiText}
-use Rattle.og_syntax.specs.Clauses.{all_of, Aliased, item_of, table_of, semi_of, Where, before_semis, core_of, rest_of, query_of}
-use Rattle.og_syntax.specs.Lexemes.{is, same_sort}
+use Rattle.og_syntax.specs.Clauses.{all_of, Aliased, table_of, semi_of, Where, before_semis, core_of, rest_of, query_of}
+use Rattle.og_syntax.specs.Lexemes.{same_sort}
 use Rattle.og_syntax.specs.Meanings.{set_op_of}
 use Rattle.og_syntax.specs.Rules.{Rule, ◌or◌, Tok, Many, Joined, Optional, Past, Single}
 use Rattle.og_syntax.specs.Rules as rules_
-use Rattle.og_syntax.specs.Grammar.{IsName, IsExpr, IsConjOf, IsCondOf, IsNegIn, IsCond, IsAlias, IsFitem, IsItem, IsItemList, IsItems, IsFirstTable, IsJoinedTable, IsFurtherTable, IsTables, IsSub, IsSemi, IsSemis, IsWcondOf, IsWcond, IsCore, IsFurtherCore, IsQuery}
+use Rattle.og_syntax.specs.Grammar.{IsConjOf, IsNegIn, IsCond, IsAlias, IsFitem, IsItem, IsItemList, IsItems, IsFirstTable, IsJoinedTable, IsFurtherTable, IsTables, IsSub, IsSemi, IsSemis, IsWcondOf, IsWcond, IsCore, IsFurtherCore, IsQuery}
 use Rattle.std.proofs.lemmas.Bool.{ne_eqb}
 use Rattle.og_syntax.proofs.EverySort.{everywhere}
-use Rattle.og_parse.specs.Depth.{opened_after, is_set_word}
-use Rattle.og_print.specs.declared.conditions.Place.TheVariants as place
-use Rattle.og_print.specs.Words.{Word, Plain, Named, word_sort, each, joined, behind, enclosed}
-use Rattle.og_print.specs.Expressions.{expr_words}
-use Rattle.og_print.specs.Conditions.{cond_words}
-use Rattle.og_print.specs.Queries.{op_sort, alias_words, cond_clause_words, item_words, item_list_words, items_words, name_words, table_words, further_words, further_table_words, tables_words, sub_words, exists_words, semi_words, semis_words, front_words, where_words, core_words, rest_words, query_words}
-use Rattle.og_print.specs.Reprint.{SpellAll, AreProper}
+use Rattle.og_parse.specs.Depth.{opened_after}
+use Rattle.og_print.specs.Words.{Word, Plain}
+use Rattle.og_print.specs.Queries.{op_sort, alias_words, cond_clause_words, item_words, item_list_words, items_words, name_words, table_words, further_table_words, tables_words, semi_words, semis_words, front_words, where_words, core_words, rest_words, query_words}
+use Rattle.og_print.specs.Reprint.{AreProper}
 use Rattle.og_print.specs.Depths.{nests, IsNoDeeper}
 use Rattle.og_print.proofs.Nesting.{low, neither, no_deeper-nil}
-use Rattle.og_print.proofs.Reprints.{Part, Reprints, halves, one_spelled, none_spelled, agrees, recast, again-pure, again-bind, again-bind_where, again-behind, again-map, again-or, again-like, again-counted, again-many, again-joined, again-optional, again-after, again-past, again-tok, again-worded, again-single}
+use Rattle.og_print.proofs.Reprints.{Part, Reprints, halves, one_spelled, none_spelled, agrees, recast, again-pure, again-bind, again-bind_where, again-map, again-or, again-like, again-counted, again-many, again-joined, again-optional, again-after, again-past, again-worded, again-single}
 use Rattle.og_print.proofs.ExpressionReprints.{again-name, again-expr}
-use Rattle.og_print.proofs.ConditionReprints.{conj_words, alone_words, again-conj, again-cond_of, again-cond}
+use Rattle.og_print.proofs.ConditionReprints.{alone_words, again-conj, again-cond_of, again-cond}
 
 -- ---- names and items
 

@@ -1,5 +1,5 @@
 -- What is by a rule is by the rule again when it is printed: the steps of rules.
-use Rattle.std.proofs.Common.{◌≡◌, ◌⊎◌, ◌<◌, ◌≤◌, ◌+◌, inl, inr, ℕ, zero, suc, Bool, true, false, not, ◌&&◌, List, [], ◌∷◌, ◌++◌, length, map, Option, Some, None, refl, sym, ap, ◌∙◌, subst, append_assoc, append-nil, length-append, arith}
+use Rattle.std.proofs.Common.{◌≡◌, ◌⊎◌, ◌<◌, ◌+◌, inl, inr, ℕ, zero, suc, Bool, true, ◌&&◌, List, [], ◌∷◌, ◌++◌, length, map, Option, Some, None, refl, sym, ap, ◌∙◌, subst, append_assoc, append-nil, length-append, arith}
 use Rattle.std.proofs.lemmas.List.{map-append}
 use Rattle.og_syntax.specs.declared.lexeme.Sort.{Sort}
 use Rattle.og_syntax.specs.declared.lexeme.Sort.TheVariants as k
@@ -10,10 +10,10 @@ use Rattle.og_syntax.specs.Rules as rules_
 use Rattle.og_syntax.proofs.Exact.{left_of, right_of, is_sort}
 use Rattle.og_syntax.proofs.EverySort.{everywhere, every_sort}
 use Rattle.og_parse.specs.Depth.{opened_after}
-use Rattle.og_print.specs.Words.{Word, Plain, Named, Whole, Quoted, word_sort, each, joined, behind, enclosed}
-use Rattle.og_print.specs.Reprint.{is_inner, IsWell, AreWell, Spells, SpellAll, IsProper, AreProper}
+use Rattle.og_print.specs.Words.{Word, Plain, word_sort, each, joined, behind, enclosed}
+use Rattle.og_print.specs.Reprint.{is_inner, AreWell, Spells, SpellAll, AreProper}
 use Rattle.og_print.specs.Depths.{sorts_of, IsNoDeeper}
-use Rattle.og_print.proofs.Nesting.{round, no_deeper-nil, no_deeper-same, no_deeper-append, no_deeper-round, no_deeper-bare}
+use Rattle.og_print.proofs.Nesting.{round, no_deeper-nil, no_deeper-same, no_deeper-append, no_deeper-round}
 
 -- ---- words and the lexemes that spell them
 
@@ -121,16 +121,15 @@ proper-rest {A} script {printed} {P} {w} {us} {ts} {x} {rest} a p = proper-after
 pub again-pure : {A : Type 0} {script printed : List ℕ} {a : A} {w : A → List Word} {us : List Word} → w a ≡ us → Reprints script printed (rules_.pure a) (λ d. rules_.pure a) w us
 again-pure {A} {script} {printed} {a} {w} {us} e = record {
   redo = λ ts x rest p h.
-     record {
-      front = [];
-      split = sym h.1;
-      vs = [];
-      words = ap w h.0 ∙ e ∙ sym (append-nil us);
-      well = tt;
-      no_deeper = no_deeper-nil;
-      again = λ d seg tail short some sp. (h.0, none_spelled printed seg tail sp);
-    }
-  ;
+      record {
+        front = [];
+        split = sym h.1;
+        vs = [];
+        words = ap w h.0 ∙ e ∙ sym (append-nil us);
+        well = tt;
+        no_deeper = no_deeper-nil;
+        again = λ d seg tail short some sp. (h.0, none_spelled printed seg tail sp);
+      };
 }
 
 -- two lists with a third behind them
@@ -150,26 +149,25 @@ pub again-bind_where : {A B : Type 0} {script printed : List ℕ} {P : Rule A} {
     → Reprints script printed (rules_.Bind P Q) (λ d. rules_.Bind (P' d) (Q' d)) w us
 again-bind_where {A} {B} {script} {printed} {P} {P'} {Q} {Q'} {u} {w} {us} Known known E D = record {
   redo = λ ts y rest p h.
-        let x = h.0 in
-        let mid = h.1 in
-        let a = E.redo ts x mid p h.2 in
-        let b = (D x (known ts x mid h.2)).redo mid y rest (proper-rest script a p) h.3 in
-        record {
-          front = a.front ++ b.front;
-          split = two_parts a.front a.front b.front rest ts mid a.split b.split;
-          vs = a.vs ++ b.vs;
-          words = b.words ∙ ap (λ z. (us ++ z) ++ b.vs) a.words ∙ append_assoc us a.vs b.vs;
-          well = well-append a.vs b.vs a.well b.well;
-          no_deeper = two_sorts a.front b.front a.vs b.vs a.no_deeper b.no_deeper;
-          again = λ d seg tail short some sp.
-              let k = halves printed seg a.vs b.vs sp in
-              let sum : length seg ≡ length k.first + length k.second = ap length k.whole ∙ length-append k.first k.second in
-              let both : 0 < length (k.second ++ tail) = omega (arith, length-append k.second tail, some) in
-              subst (λ s. rules_.Bind (P' d) (Q' d) (s ++ tail) y tail) (sym k.whole)
-              (subst (λ s. rules_.Bind (P' d) (Q' d) s y tail) (sym (append_assoc k.first k.second tail))
-              (x, k.second ++ tail, a.again d k.first (k.second ++ tail) (omega (arith, sum, short)) both k.left, b.again d k.second tail (omega (arith, sum, short)) some k.right));
-        }
-  ;
+      let x = h.0 in
+      let mid = h.1 in
+      let a = E.redo ts x mid p h.2 in
+      let b = (D x (known ts x mid h.2)).redo mid y rest (proper-rest script a p) h.3 in
+      record {
+        front = a.front ++ b.front;
+        split = two_parts a.front a.front b.front rest ts mid a.split b.split;
+        vs = a.vs ++ b.vs;
+        words = b.words ∙ ap (λ z. (us ++ z) ++ b.vs) a.words ∙ append_assoc us a.vs b.vs;
+        well = well-append a.vs b.vs a.well b.well;
+        no_deeper = two_sorts a.front b.front a.vs b.vs a.no_deeper b.no_deeper;
+        again = λ d seg tail short some sp.
+            let k = halves printed seg a.vs b.vs sp in
+            let sum : length seg ≡ length k.first + length k.second = ap length k.whole ∙ length-append k.first k.second in
+            let both : 0 < length (k.second ++ tail) = omega (arith, length-append k.second tail, some) in
+            subst (λ s. rules_.Bind (P' d) (Q' d) (s ++ tail) y tail) (sym k.whole)
+            (subst (λ s. rules_.Bind (P' d) (Q' d) s y tail) (sym (append_assoc k.first k.second tail))
+            (x, k.second ++ tail, a.again d k.first (k.second ++ tail) (omega (arith, sum, short)) both k.left, b.again d k.second tail (omega (arith, sum, short)) some k.right));
+      };
 }
 
 -- the one, and then the other
@@ -195,27 +193,26 @@ pub again-under : {A B : Type 0} {script printed : List ℕ} {P : Rule A} {P' : 
     → Reprints script printed (rules_.Bind P Q) (λ d. rules_.Bind (P' d) (Q' (below d))) w us
 again-under {A} {B} {script} {printed} {P} {P'} {Q} {Q'} {u} {w} {us} one E D = record {
   redo = λ ts y rest p h.
-        let x = h.0 in
-        let mid = h.1 in
-        let a = E.redo ts x mid p h.2 in
-        let b = (D x).redo mid y rest (proper-rest script a p) h.3 in
-        record {
-          front = a.front ++ b.front;
-          split = two_parts a.front a.front b.front rest ts mid a.split b.split;
-          vs = a.vs ++ b.vs;
-          words = b.words ∙ ap (λ z. (us ++ z) ++ b.vs) a.words ∙ append_assoc us a.vs b.vs;
-          well = well-append a.vs b.vs a.well b.well;
-          no_deeper = two_sorts a.front b.front a.vs b.vs a.no_deeper b.no_deeper;
-          again = λ d seg tail short some sp.
-              let k = halves printed seg a.vs b.vs sp in
-              let sum : length seg ≡ length k.first + length k.second = ap length k.whole ∙ length-append k.first k.second in
-              let single : length k.first ≡ 1 = spelled-length printed k.first a.vs k.left ∙ ap length (sym a.words) ∙ one x in
-              let both : 0 < length (k.second ++ tail) = omega (arith, length-append k.second tail, some) in
-              subst (λ s. rules_.Bind (P' d) (Q' (below d)) (s ++ tail) y tail) (sym k.whole)
-              (subst (λ s. rules_.Bind (P' d) (Q' (below d)) s y tail) (sym (append_assoc k.first k.second tail))
-              (x, k.second ++ tail, a.again d k.first (k.second ++ tail) (omega (arith, sum, short)) both k.left, b.again (below d) k.second tail (below_bound d (length k.second) (omega (arith, sum, single, short))) some k.right));
-        }
-  ;
+      let x = h.0 in
+      let mid = h.1 in
+      let a = E.redo ts x mid p h.2 in
+      let b = (D x).redo mid y rest (proper-rest script a p) h.3 in
+      record {
+        front = a.front ++ b.front;
+        split = two_parts a.front a.front b.front rest ts mid a.split b.split;
+        vs = a.vs ++ b.vs;
+        words = b.words ∙ ap (λ z. (us ++ z) ++ b.vs) a.words ∙ append_assoc us a.vs b.vs;
+        well = well-append a.vs b.vs a.well b.well;
+        no_deeper = two_sorts a.front b.front a.vs b.vs a.no_deeper b.no_deeper;
+        again = λ d seg tail short some sp.
+            let k = halves printed seg a.vs b.vs sp in
+            let sum : length seg ≡ length k.first + length k.second = ap length k.whole ∙ length-append k.first k.second in
+            let single : length k.first ≡ 1 = spelled-length printed k.first a.vs k.left ∙ ap length (sym a.words) ∙ one x in
+            let both : 0 < length (k.second ++ tail) = omega (arith, length-append k.second tail, some) in
+            subst (λ s. rules_.Bind (P' d) (Q' (below d)) (s ++ tail) y tail) (sym k.whole)
+            (subst (λ s. rules_.Bind (P' d) (Q' (below d)) s y tail) (sym (append_assoc k.first k.second tail))
+            (x, k.second ++ tail, a.again d k.first (k.second ++ tail) (omega (arith, sum, short)) both k.left, b.again (below d) k.second tail (below_bound d (length k.second) (omega (arith, sum, single, short))) some k.right));
+      };
 }
 
 -- the same words behind others
@@ -223,9 +220,8 @@ pub again-behind : {A : Type 0} {script printed : List ℕ} {P : Rule A} {P' : �
     → ((x : A) → w x ≡ us ++ f x) → Reprints script printed P P' f [] → Reprints script printed P P' w us
 again-behind {A} {script} {printed} {P} {P'} {f} {w} {us} e E = record {
   redo = λ ts x rest p h.
-        let a = E.redo ts x rest p h in
-        record { front = a.front; split = a.split; vs = a.vs; words = e x ∙ ap (λ z. us ++ z) a.words; well = a.well; no_deeper = a.no_deeper; again = a.again }
-  ;
+      let a = E.redo ts x rest p h in
+      record { front = a.front; split = a.split; vs = a.vs; words = e x ∙ ap (λ z. us ++ z) a.words; well = a.well; no_deeper = a.no_deeper; again = a.again };
 }
 
 -- the value by a function
@@ -253,9 +249,8 @@ pub again-like : {A : Type 0} {script printed : List ℕ} {P R : Rule A} {P' R' 
     → Reprints script printed P P' w us → Reprints script printed R R' w us
 again-like to from E = record {
   redo = λ ts x rest p h.
-        let a = E.redo ts x rest p (to ts x rest h) in
-        record { front = a.front; split = a.split; vs = a.vs; words = a.words; well = a.well; no_deeper = a.no_deeper; again = λ d seg tail short some sp. from d (seg ++ tail) x tail (a.again d seg tail short some sp) }
-  ;
+      let a = E.redo ts x rest p (to ts x rest h) in
+      record { front = a.front; split = a.split; vs = a.vs; words = a.words; well = a.well; no_deeper = a.no_deeper; again = λ d seg tail short some sp. from d (seg ++ tail) x tail (a.again d seg tail short some sp) };
 }
 
 -- a rule for lexemes of any count, by their own count
@@ -263,12 +258,16 @@ pub again-counted : {A : Type 0} {script printed : List ℕ} {P : ℕ → Rule A
     → ((d : ℕ) → Reprints script printed (P d) P' w us) → Reprints script printed (λ ts. P (length ts) ts) (λ d ts. P' (length ts) ts) w us
 again-counted E = record {
   redo = λ ts x rest p h.
-        let a = (E (length ts)).redo ts x rest p h in
-        record {
-          front = a.front; split = a.split; vs = a.vs; words = a.words; well = a.well; no_deeper = a.no_deeper;
-          again = λ d seg tail short some sp. a.again (length (seg ++ tail)) seg tail (omega (arith, length-append seg tail, some)) some sp;
-        }
-  ;
+      let a = (E (length ts)).redo ts x rest p h in
+      record {
+        front = a.front;
+        split = a.split;
+        vs = a.vs;
+        words = a.words;
+        well = a.well;
+        no_deeper = a.no_deeper;
+        again = λ d seg tail short some sp. a.again (length (seg ++ tail)) seg tail (omega (arith, length-append seg tail, some)) some sp;
+      };
 }
 
 -- a part by a rule that says more
@@ -327,16 +326,15 @@ again-optional e o E = again-or (again-map Some e E) (again-pure o)
 pub again-tok : {script printed : List ℕ} (sort : Sort) → is_inner sort ≡ true → ((n : ℕ) → opened_after n sort ≡ n) → Reprints script printed (Tok sort) (λ d. Tok sort) (λ _. Plain sort ∷ []) []
 again-tok {script} {printed} sort inner flat = record {
   redo = λ ts x rest p h.
-     record {
-      front = h.0 ∷ [];
-      split = h.1;
-      vs = Plain sort ∷ [];
-      words = refl;
-      well = (inner, tt);
-      no_deeper = subst (λ a. IsNoDeeper (a ∷ []) (sort ∷ [])) (sym h.2) (no_deeper-same sort flat);
-      again = λ d seg tail short some sp. let o = one_spelled printed seg (Plain sort) sp in (o.lexeme, ap (λ s. s ++ tail) o.whole, o.spells);
-    }
-  ;
+      record {
+        front = h.0 ∷ [];
+        split = h.1;
+        vs = Plain sort ∷ [];
+        words = refl;
+        well = (inner, tt);
+        no_deeper = subst (λ a. IsNoDeeper (a ∷ []) (sort ∷ [])) (sym h.2) (no_deeper-same sort flat);
+        again = λ d seg tail short some sp. let o = one_spelled printed seg (Plain sort) sp in (o.lexeme, ap (λ s. s ++ tail) o.whole, o.spells);
+      };
 }
 
 -- what comes after a lexeme
@@ -368,20 +366,19 @@ pub again-worded : {A : Type 0} {script printed : List ℕ} (table : Sort → Op
     → Reprints script printed (Worded table) (λ d. Worded table) (λ x. Plain (g x) ∷ []) []
 again-worded {A} {script} {printed} table g all flat = record {
   redo = λ ts x rest p h.
-        let t = h.0 in
-        let same = agreed g (table t.sort) t.sort x (every_sort (λ a. agrees g (table a) a) all t.sort) h.2 in
-        record {
-          front = t ∷ [];
-          split = h.1;
-          vs = Plain (g x) ∷ [];
-          words = refl;
-          well = (same.1, tt);
-          no_deeper = subst (λ a. IsNoDeeper (a ∷ []) (g x ∷ [])) same.0 (no_deeper-same (g x) (flat x));
-          again = λ d seg tail short some sp.
-              let o = one_spelled printed seg (Plain (g x)) sp in
-              (o.lexeme, ap (λ s. s ++ tail) o.whole, ap table (o.spells ∙ same.0) ∙ h.2);
-        }
-  ;
+      let t = h.0 in
+      let same = agreed g (table t.sort) t.sort x (every_sort (λ a. agrees g (table a) a) all t.sort) h.2 in
+      record {
+        front = t ∷ [];
+        split = h.1;
+        vs = Plain (g x) ∷ [];
+        words = refl;
+        well = (same.1, tt);
+        no_deeper = subst (λ a. IsNoDeeper (a ∷ []) (g x ∷ [])) same.0 (no_deeper-same (g x) (flat x));
+        again = λ d seg tail short some sp.
+            let o = one_spelled printed seg (Plain (g x)) sp in
+            (o.lexeme, ap (λ s. s ++ tail) o.whole, ap table (o.spells ∙ same.0) ∙ h.2);
+      };
 }
 
 -- ---- parentheses
@@ -419,9 +416,12 @@ enclosed_sorts ws = ap (λ rest. k.LeftParen ∷ rest) (map-append word_sort ws 
 -- what is in parentheses is by the rule in parentheses
 pub in_round : {A : Type 0} (P : Rule A) (script : List ℕ) (seg : List Lexeme) (ws : List Word) (tail : List Lexeme) (x : A) (r : Round script seg ws)
     → P (r.inside ++ (r.close ∷ tail)) x (r.close ∷ tail) → Single P (seg ++ tail) x tail
-in_round P script seg ws tail x r h =
-    (tt, r.inside ++ (r.close ∷ tail), (r.open_, ap (λ s. s ++ tail) r.whole ∙ ap (λ s. r.open_ ∷ s) (append_assoc r.inside (r.close ∷ []) tail), r.opens),
-    (x, r.close ∷ tail, h, (tt, tail, (r.close, refl, r.closes), (refl, refl))))
+in_round P script seg ws tail x r h = (
+  tt,
+  r.inside ++ (r.close ∷ tail),
+  (r.open_, ap (λ s. s ++ tail) r.whole ∙ ap (λ s. r.open_ ∷ s) (append_assoc r.inside (r.close ∷ []) tail), r.opens),
+  (x, r.close ∷ tail, h, (tt, tail, (r.close, refl, r.closes), (refl, refl))),
+)
 
 -- the front of what is in parentheses
 pub record Outer (ts : List Lexeme) (front mid rest : List Lexeme) : Type 0 where
@@ -444,29 +444,28 @@ pub again-single_by : {A : Type 0} {script printed : List ℕ} {P : Rule A} {P' 
     → Reprints script printed P P' f [] → Reprints script printed (Single P) (λ d. Single (P' (lower d))) (λ x. enclosed (f x)) []
 again-single_by {A} {script} {printed} {P} {P'} {f} lower bound E = record {
   redo = λ ts y rest p h.
-        let inside = h.1 in
-        let x = h.3.0 in
-        let mid = h.3.1 in
-        let last = h.3.3 in
-        let proper : AreProper script inside = (subst (AreProper script) h.2.1 p).1 in
-        let a = E.redo inside x mid proper h.3.2 in
-        let same : y ≡ x = last.3.0 in
-        let close : Tok k.RightParen mid tt rest = subst (λ r. Tok k.RightParen mid tt r) (sym last.3.1) last.2 in
-        let o = outer ts inside a.front mid rest h.2 a.split close in
-        record {
-          front = o.open_ ∷ a.front ++ o.close ∷ [];
-          split = o.split;
-          vs = enclosed a.vs;
-          words = ap (λ x. enclosed (f x)) same ∙ ap enclosed a.words;
-          well = well-enclosed a.vs a.well;
-          no_deeper = subst (λ s. IsNoDeeper s (map word_sort (enclosed a.vs))) (sym o.sorts) (subst (λ s. IsNoDeeper (round (sorts_of a.front)) s) (sym (enclosed_sorts a.vs)) (no_deeper-round a.no_deeper));
-          again = λ d seg tail short some sp.
-              let r = round_spelled printed seg a.vs sp in
-              let sum : length seg ≡ suc (length r.inside + 1) = ap length r.whole ∙ ap suc (length-append r.inside (r.close ∷ [])) in
-              subst (λ y. Single (P' (lower d)) (seg ++ tail) y tail) (sym same)
-              (in_round (P' (lower d)) printed seg a.vs tail x r (a.again (lower d) r.inside (r.close ∷ tail) (bound d (length r.inside) (omega (arith, sum, short))) (omega arith) r.spelled));
-        }
-  ;
+      let inside = h.1 in
+      let x = h.3.0 in
+      let mid = h.3.1 in
+      let last = h.3.3 in
+      let proper : AreProper script inside = (subst (AreProper script) h.2.1 p).1 in
+      let a = E.redo inside x mid proper h.3.2 in
+      let same : y ≡ x = last.3.0 in
+      let close : Tok k.RightParen mid tt rest = subst (λ r. Tok k.RightParen mid tt r) (sym last.3.1) last.2 in
+      let o = outer ts inside a.front mid rest h.2 a.split close in
+      record {
+        front = o.open_ ∷ a.front ++ o.close ∷ [];
+        split = o.split;
+        vs = enclosed a.vs;
+        words = ap (λ x. enclosed (f x)) same ∙ ap enclosed a.words;
+        well = well-enclosed a.vs a.well;
+        no_deeper = subst (λ s. IsNoDeeper s (map word_sort (enclosed a.vs))) (sym o.sorts) (subst (λ s. IsNoDeeper (round (sorts_of a.front)) s) (sym (enclosed_sorts a.vs)) (no_deeper-round a.no_deeper));
+        again = λ d seg tail short some sp.
+            let r = round_spelled printed seg a.vs sp in
+            let sum : length seg ≡ suc (length r.inside + 1) = ap length r.whole ∙ ap suc (length-append r.inside (r.close ∷ [])) in
+            subst (λ y. Single (P' (lower d)) (seg ++ tail) y tail) (sym same)
+            (in_round (P' (lower d)) printed seg a.vs tail x r (a.again (lower d) r.inside (r.close ∷ tail) (bound d (length r.inside) (omega (arith, sum, short))) (omega arith) r.spelled));
+      };
 }
 
 -- in parentheses

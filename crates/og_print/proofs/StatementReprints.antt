@@ -1,26 +1,20 @@
 -- Statements are by their rules again when they are printed.
-use Rattle.std.proofs.Common.{◌≡◌, ◌⊎◌, inl, inr, ℕ, ℤ, Bool, true, false, List, [], ◌∷◌, ◌++◌, Option, Some, None, refl, sym, ap, ◌∙◌, subst, append_assoc}
-use Rattle.og_base.specs.Calendar.{IsRefDayText}
+use Rattle.std.proofs.Common.{◌≡◌, inr, ℕ, ℤ, true, false, List, [], ◌∷◌, refl, sym, ap}
+use Rattle.og_base.specs.Calendar.{day_text}
 use Rattle.og_value.specs.declared.kind.Kind.{Kind}
 use Rattle.og_value.specs.declared.kind.Kind.TheVariants as kinds
-use Rattle.og_value.specs.declared.value.Value.{Value}
-use Rattle.og_syntax.specs.declared.lexeme.Sort.{Sort}
 use Rattle.og_syntax.specs.declared.lexeme.Sort.TheVariants as k
 use Rattle.og_syntax.specs.declared.lexeme.Lexeme.{Lexeme}
-use Rattle.og_syntax.specs.declared.tree.CondText.{CondText}
-use Rattle.og_syntax.specs.declared.tree.Stmt.{Stmt}
 use Rattle.og_syntax.specs.declared.tree.Stmt.TheVariants as s
 use Rattle.og_syntax.specs.Lexemes.{same_sort}
 use Rattle.og_syntax.specs.Rules.{Rule, ◌or◌, Given, Tok, Joined, Optional, Past, Single}
 use Rattle.og_syntax.specs.Rules as rules_
-use Rattle.og_syntax.specs.Grammar.{IsName, IsQuoted, IsText, IsLit, IsExpr, IsCond, IsQuery}
 use Rattle.og_parse.specs.Depth.{opened_after}
 use Rattle.og_parse.specs.Statements as st
 use Rattle.og_parse.specs.Statements.{kind_of, column_of, set_of, IsDayOf, IsColdef, IsTuple, IsSet, IsWhereCond, IsAsOfText, IsAsOf, IsCreate, IsInsert, IsDelete, IsUpdate, IsDrop, IsChange, IsSave, IsOpen, IsImport, IsFileStatement, IsKeep, IsNameAsOf, IsQueryAsOf, IsPrint, IsExplain, IsValid, IsLive, IsAnswer, IsBody}
-use Rattle.og_print.specs.Words.{Word, Plain, Named, Quoted}
-use Rattle.og_print.specs.Expressions.{lit_words, expr_words}
-use Rattle.og_print.specs.Queries.{cond_clause_words, query_words}
-use Rattle.og_print.specs.Statements.{kind_sort, coldef_words, coldefs_words, lits_words, tuple_words, tuples_words, set_words, sets_words, day_bytes, as_of_words, body_words}
+use Rattle.og_print.specs.Words.{Word, Plain, Quoted}
+use Rattle.og_print.specs.Queries.{cond_clause_words}
+use Rattle.og_print.specs.Statements.{kind_sort, coldef_words, tuple_words, set_words, as_of_words, body_words}
 use Rattle.og_print.proofs.TextsAgain.{day_again}
 use Rattle.og_print.proofs.Reprints.{Reprints, again-pure, again-bind, again-behind, again-map, again-or, again-like, again-joined, again-after, again-past, again-worded, again-single}
 use Rattle.og_print.proofs.ExpressionReprints.{IsMarked, flat_pair, again-name, again-text, again-marked, again-lit, again-expr}
@@ -79,7 +73,7 @@ from_as_of script ts x rest a =
 
 -- the words of a day after DATE
 abbrev dated_words : ℤ → List Word
-dated_words n = Plain k.Date ∷ Quoted (day_bytes n) ∷ []
+dated_words n = Plain k.Date ∷ Quoted (day_text n) ∷ []
 
 -- the text of a reference day
 day_kept : (z : List ℕ) (n : ℤ) → IsDayOf true z n → (dated_words n ≡ Plain k.Date ∷ Quoted z ∷ []) × IsDayOf true z n

@@ -1,10 +1,10 @@
 -- The text that is written for a day, a point or a period is the one that it was read from.
-use Rattle.std.proofs.Common.{◌≡◌, inl, inr, ◌≤ℤ◌, ◌<ℤ◌, ℕ, ℤ, pos, List, refl, sym, ap, ap₂, ◌∙◌, subst, arith}
+use Rattle.std.proofs.Common.{◌≡◌, inl, inr, ℕ, ℤ, List, refl, sym, ap₂, ◌∙◌, subst, arith}
 use Rattle.std.proofs.lemmas.Int.{ints}
 use Rattle.og_base.specs.Calendar.{IsExtDay, IsDayText, day_text}
 use Rattle.og_base.proofs.DayTexts.{civil_in_range, text_is}
 use Rattle.og_time.specs.Point.{Point, IsPoint, IsPointText, point_text}
-use Rattle.og_time.specs.Period.{Period, IsPeriod, IsPeriodText, period_text, bracketed}
+use Rattle.og_time.specs.Period.{Period, IsPeriodText, period_text, bracketed}
 use Rattle.og_time.proofs.PointWriting.{point_text-is}
 
 -- a day text is of a day

@@ -1,5 +1,5 @@
 -- The words of conditions.
-use Rattle.std.specs.Prelude.{Bool, true, false, List, [], ◌∷◌, ◌++◌}
+use Rattle.std.specs.Prelude.{Bool, true, false, List, ◌∷◌, ◌++◌}
 use Rattle.og_value.specs.declared.term.Cmp.{Cmp}
 use Rattle.og_value.specs.declared.term.Cmp.TheVariants as cmp
 use Rattle.og_value.specs.declared.term.Pred.{Pred}

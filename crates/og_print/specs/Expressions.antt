@@ -1,5 +1,5 @@
 -- The words of literals and expressions.
-use Rattle.std.specs.Prelude.{ℕ, ℤ, List, [], ◌∷◌, ◌++◌, Option, Some, None}
+use Rattle.std.specs.Prelude.{ℕ, List, [], ◌∷◌, Option, Some, None}
 use Rattle.og_time.specs.Point.{point_text}
 use Rattle.og_time.specs.Period.{period_text}
 use Rattle.og_value.specs.declared.value.Value.{Value}

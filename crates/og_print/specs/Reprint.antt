@@ -1,5 +1,5 @@
 -- Words that are read as they are written, and the lexemes that spell them.
-use Rattle.std.specs.Prelude.{◌≡◌, ℕ, ℤ, Bool, true, false, List, [], ◌∷◌, ⊤}
+use Rattle.std.specs.Prelude.{◌≡◌, ℕ, Bool, true, false, List, [], ◌∷◌, ⊤}
 use Rattle.std.specs.Str.{IsUtf8}
 use Rattle.og_lex.specs.Bytes.{IsIn64}
 use Rattle.og_syntax.specs.declared.lexeme.Sort.{Sort}

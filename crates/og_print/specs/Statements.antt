@@ -51,13 +51,9 @@ set_words x = Named x.column ∷ Plain k.Equal ∷ expr_words x.expr
 abbrev pub sets_words : List SetText → List Word
 sets_words = listed set_words
 
--- the text of a day
-abbrev pub day_bytes : ℤ → List ℕ
-day_bytes day = day_text day
-
 -- AS OF and a day
 abbrev pub as_of_words : ℤ → List Word
-as_of_words day = Plain k.As ∷ Plain k.Of ∷ Plain k.Date ∷ Quoted (day_bytes day) ∷ []
+as_of_words day = Plain k.As ∷ Plain k.Of ∷ Plain k.Date ∷ Quoted (day_text day) ∷ []
 
 -- CREATE TABLE
 abbrev pub create_words : List ℕ → List Column → List Word

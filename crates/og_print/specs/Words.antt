@@ -1,5 +1,5 @@
 -- The words that a script is printed as, and their bytes.
-use Rattle.std.specs.Prelude.{ℕ, ℤ, Bool, List, [], ◌∷◌, ◌++◌, codes, map, if◌then◌else◌}
+use Rattle.std.specs.Prelude.{ℕ, ℤ, Bool, List, [], ◌∷◌, ◌++◌, codes, if◌then◌else◌}
 use Rattle.std.specs.Fmt.{signed_decimal}
 use Rattle.og_lex.specs.Bytes.{quoted}
 use Rattle.og_syntax.specs.declared.lexeme.Sort.{Sort}

@@ -7,8 +7,8 @@ ghost use Rattle.og_syntax.specs.declared.lexeme.Sort.{Sort};
 
 use crate::words::{named, plain, quoted, quoted_cell, separator, whole};
 use og_base::NoMemory;
-use og_syntax::Sort;
 use og_parse::ExprText;
+use og_syntax::Sort;
 use og_value::{Func, Name, Value};
 use sqlite_items::Items;
 use std::alloc::Global;
@@ -26,12 +26,7 @@ pub fn write_lit(alloc: Global, value: &Value, out: &mut Vec<u8>) -> Result<(), 
 }
 
 // Appends a word and the cell of a value between quotes.
-fn write_marked(
-    alloc: Global,
-    sort: Sort,
-    value: &Value,
-    out: &mut Vec<u8>,
-) -> Result<(), NoMemory>
+fn write_marked(alloc: Global, sort: Sort, value: &Value, out: &mut Vec<u8>) -> Result<(), NoMemory>
     ensures { OnOk result (out.new.items ≡ with_words out.old.items (Plain sort ∷ Quoted (cell_text value.now) ∷ [])) }
 {
     plain(sort, out)?;

@@ -7,9 +7,7 @@ use crate::conditions::{Place, write_cond};
 use crate::expressions::write_expr;
 use crate::words::{named, plain, separator};
 use og_base::NoMemory;
-use og_parse::{
-    CondText, CoreText, FromText, ItemText, ItemsText, QueryText, RestText, SemiText,
-};
+use og_parse::{CondText, CoreText, FromText, ItemText, ItemsText, QueryText, RestText, SemiText};
 use og_syntax::Sort;
 use og_value::{Name, SetOp};
 use sqlite_items::Items;
@@ -111,11 +109,7 @@ fn write_table(table: &FromText, out: &mut Vec<u8>) -> Result<(), NoMemory>
 }
 
 // Appends a further table: after a comma, or after JOIN and with its condition.
-fn write_further_table(
-    alloc: Global,
-    table: &FromText,
-    out: &mut Vec<u8>,
-) -> Result<(), NoMemory>
+fn write_further_table(alloc: Global, table: &FromText, out: &mut Vec<u8>) -> Result<(), NoMemory>
     ensures { OnOk result (out.new.items ≡ with_words out.old.items (spec.further_table_words table.now)) }
 {
     match &table.on {
@@ -211,11 +205,7 @@ fn write_semis(alloc: Global, semis: &Items<SemiText>, out: &mut Vec<u8>) -> Res
 }
 
 // Appends a condition and AND after it, or nothing.
-fn write_front(
-    alloc: Global,
-    cond: &Option<CondText>,
-    out: &mut Vec<u8>,
-) -> Result<(), NoMemory>
+fn write_front(alloc: Global, cond: &Option<CondText>, out: &mut Vec<u8>) -> Result<(), NoMemory>
     ensures { OnOk result (out.new.items ≡ with_words out.old.items (spec.front_words cond.now)) }
 {
     match cond {

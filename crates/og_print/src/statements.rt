@@ -1,5 +1,6 @@
 //! Statements.
 ghost use Rattle.std.specs.Prelude.{◌≡◌, ◌∷◌, [], OnOk};
+ghost use Rattle.og_base.specs.Calendar.{day_text};
 ghost use Rattle.og_print.specs.Words.{with_words, Plain, Named, Quoted};
 ghost use Rattle.og_print.specs.Statements as spec;
 ghost use Rattle.og_print.specs.Queries.{query_words};
@@ -110,7 +111,7 @@ fn write_sets(alloc: Global, sets: &Items<SetText>, out: &mut Vec<u8>) -> Result
 
 // Appends a day between quotes.
 fn quoted_day(alloc: Global, day: RefDay, out: &mut Vec<u8>) -> Result<(), NoMemory>
-    ensures { OnOk result (out.new.items ≡ with_words out.old.items (Quoted (spec.day_bytes day) ∷ [])) }
+    ensures { OnOk result (out.new.items ≡ with_words out.old.items (Quoted (day_text day) ∷ [])) }
 {
     let mut text = Vec::new(alloc);
     write_day(ExtDay::of(day), &mut text)?;

@@ -46,8 +46,7 @@ fn literals_are_printed_in_one_form(rt: HostRuntime) -> Result<(), Fail> {
     for (script, text) in [
         (
             b"INSERT INTO t VALUES (-9223372036854775808, 9223372036854775807, -0, 007);".as_slice(),
-            b"INSERT INTO t VALUES ( -9223372036854775808 , 9223372036854775807 , 0 , 7 ) ;\n"
-                .as_slice(),
+            b"INSERT INTO t VALUES ( -9223372036854775808 , 9223372036854775807 , 0 , 7 ) ;\n".as_slice(),
         ),
         (
             b"INSERT INTO t VALUES ('it''s'), ('a;b(');",
@@ -110,10 +109,8 @@ fn only_parentheses_that_are_needed_are_printed(rt: HostRuntime) -> Result<(), F
 fn queries_are_printed(rt: HostRuntime) -> Result<(), Fail> {
     for (script, text) in [
         (
-            b"KEEP r AS SELECT * FROM t EXCEPT SELECT a FROM t u JOIN v AS w ON u.a = w.b, x;"
-                .as_slice(),
-            b"KEEP r AS SELECT * FROM t EXCEPT SELECT a FROM t AS u JOIN v AS w ON u . a = w . b , x ;\n"
-                .as_slice(),
+            b"KEEP r AS SELECT * FROM t EXCEPT SELECT a FROM t u JOIN v AS w ON u.a = w.b, x;".as_slice(),
+            b"KEEP r AS SELECT * FROM t EXCEPT SELECT a FROM t AS u JOIN v AS w ON u . a = w . b , x ;\n".as_slice(),
         ),
         (
             b"EXPLAIN SELECT * FROM t WHERE a = 1 AND b < 2 AND NOT EXISTS (SELECT * FROM u x WHERE x.a = b);",

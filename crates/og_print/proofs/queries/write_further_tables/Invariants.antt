@@ -1,4 +1,4 @@
-use Rattle.std.proofs.Common.{◌≡◌, drop, []}
+use Rattle.std.proofs.Common.{◌≡◌, drop}
 use Rattle.og_print.specs.Words.{with_words, each}
 use Rattle.og_print.specs.Queries.{further_table_words}
 use Rattle.og_print.proofs.queries.write_further_tables.Given as goal

@@ -1,4 +1,4 @@
-use Rattle.std.proofs.Common.{◌≡◌, drop, []}
+use Rattle.std.proofs.Common.{◌≡◌, drop}
 use Rattle.og_print.specs.Words.{with_words, each}
 use Rattle.og_print.specs.Queries.{rest_words}
 use Rattle.og_print.proofs.queries.write_rests.Given as goal
