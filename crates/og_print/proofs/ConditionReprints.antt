@@ -20,8 +20,8 @@ use Rattle.og_print.specs.declared.conditions.Place.TheVariants as place
 use Rattle.og_print.specs.Words.{Word, Plain, word_sort, enclosed}
 use Rattle.og_print.specs.Expressions.{expr_words}
 use Rattle.og_print.specs.Conditions.{cmp_sort, pred_sort, cond_words, parts_words}
-use Rattle.og_print.specs.Reprint.{AreProper}
-use Rattle.og_print.specs.Depths.{sorts_of, IsNoDeeper}
+use Rattle.og_print.proofs.Spelling.{AreProper}
+use Rattle.og_print.proofs.Depths.{sorts_of, IsNoDeeper}
 use Rattle.og_print.proofs.Nesting.{round, no_deeper-round, no_deeper-bare}
 use Rattle.og_print.proofs.TreeWords.{cond_words-And, cond_words-Or, cond_words-Not, cond_words-Compare, cond_words-Relate, cond_words-Empty, cond_words-Contains}
 use Rattle.og_print.proofs.Reprints.{Part, Reprints, outer, below, again-pure, again-bind, again-under, again-map, again-or, again-counted, again-joined, again-after, again-past, again-tok, again-worded, again-single, again-pair, round_spelled, in_round, well-enclosed, enclosed_sorts, below_bound, recast}

@@ -22,8 +22,8 @@ use Rattle.og_parse.specs.Depth.{opened_after, is_set_word}
 use Rattle.og_parse.specs.Tokens.{sort_of_word}
 use Rattle.og_print.specs.Words.{Word, Plain, Named, Whole, Quoted, enclosed}
 use Rattle.og_print.specs.Expressions.{lit_words, func_sort, expr_words}
-use Rattle.og_print.specs.Reprint.{SpellAll, AreProper, IsProper, is_inner}
-use Rattle.og_print.specs.Depths.{number_of, IsNoDeeper}
+use Rattle.og_print.proofs.Spelling.{SpellAll, AreProper, IsProper, is_inner}
+use Rattle.og_print.proofs.Depths.{number_of, IsNoDeeper}
 use Rattle.og_print.proofs.Names.{folded-word, folded-folded, folded-sort}
 use Rattle.og_print.proofs.Nesting.{low, neither, no_deeper-same}
 use Rattle.og_print.proofs.TextsAgain.{fixed_again, point_again, period_again}

@@ -27,7 +27,7 @@ use Rattle.og_syntax.proofs.EverySort.{everywhere, every_sort}
 use Rattle.og_syntax.proofs.Exact.{implies, so, left_of, right_of, not_true, or_left}
 use Rattle.og_parse.specs.Tokens.{sort_of_word, sort_of_symbol}
 use Rattle.og_print.specs.Words.{Word, Plain, Named, Whole, Quoted, sort_text, word_text, word_sort, blank_after}
-use Rattle.og_print.specs.Reprint.{is_inner, IsWell}
+use Rattle.og_print.proofs.Spelling.{is_inner, IsWell}
 
 -- a word of a printed script
 abbrev pub Comes : Word → Type 0

@@ -1,4 +1,5 @@
 pub mod ConditionReprints
+pub mod Depths
 pub mod ExpressionReprints
 pub mod Lexes
 pub mod Names
@@ -7,6 +8,7 @@ pub mod PrintedScripts
 pub mod PrintedTokens
 pub mod QueryReprints
 pub mod Reprints
+pub mod Spelling
 pub mod StatementReprints
 pub mod Texts
 pub mod TextsAgain

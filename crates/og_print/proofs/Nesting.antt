@@ -5,7 +5,7 @@ use Rattle.og_syntax.specs.declared.lexeme.Sort.{Sort}
 use Rattle.og_syntax.specs.declared.lexeme.Sort.TheVariants as k
 use Rattle.og_syntax.specs.Lexemes.{is, same_sort}
 use Rattle.og_parse.specs.Depth.{opened_after, is_set_word}
-use Rattle.og_print.specs.Depths.{opened_by, nests, number_of, IsNoDeeper}
+use Rattle.og_print.proofs.Depths.{opened_by, nests, number_of, IsNoDeeper}
 
 -- ---- lists that are put together
 

@@ -19,8 +19,8 @@ use Rattle.og_parse.specs.Tokens.{lexemes_of}
 use Rattle.og_print.specs.Words.{Word, Plain, word_sort, each}
 use Rattle.og_print.specs.Statements.{body_words, stmt_words, script_text}
 use Rattle.og_print.specs.Printed.{IsTextOf, IsPrintable}
-use Rattle.og_print.specs.Reprint.{is_inner, IsWell, AreWell, SpellAll, AreProper}
-use Rattle.og_print.specs.Depths.{sorts_of, nests, number_of, IsNoDeeper}
+use Rattle.og_print.proofs.Spelling.{is_inner, IsWell, AreWell, SpellAll, AreProper}
+use Rattle.og_print.proofs.Depths.{sorts_of, nests, number_of, IsNoDeeper}
 use Rattle.og_print.proofs.Nesting.{not_first, not_second, neither, no_deeper-same, no_deeper-append}
 use Rattle.og_print.proofs.Reprints.{halves, one_spelled, spelled-sort, spelled-sorts}
 use Rattle.og_print.proofs.StatementReprints.{again-body}

@@ -20,7 +20,7 @@ use Rattle.og_syntax.specs.Spans.{spelling, singled, inside, content}
 use Rattle.og_syntax.proofs.Exact.{left_of, right_of, is_sort, not_true}
 use Rattle.og_parse.specs.Tokens.{reserved, sort_in, sort_of_word, sort_of_symbol, at_token, lexeme_by, lexeme_of, lexemes_of}
 use Rattle.og_print.specs.Words.{Word, Plain, Named, Whole, Quoted, sort_text, word_text, word_sort, blank_after, with_word, with_words}
-use Rattle.og_print.specs.Reprint.{Spells, SpellAll, IsProper, AreProper}
+use Rattle.og_print.proofs.Spelling.{Spells, SpellAll, IsProper, AreProper}
 use Rattle.og_print.proofs.Lexes.{Comes, symbol_of, kind_by, word_kind, is_read, read_sort, spelled_sort, word_token_of, blank}
 
 -- ---- texts

@@ -21,8 +21,8 @@ use Rattle.og_syntax.proofs.EverySort.{everywhere}
 use Rattle.og_parse.specs.Depth.{opened_after}
 use Rattle.og_print.specs.Words.{Word, Plain}
 use Rattle.og_print.specs.Queries.{op_sort, alias_words, cond_clause_words, item_words, item_list_words, items_words, name_words, table_words, further_table_words, tables_words, semi_words, semis_words, front_words, where_words, core_words, rest_words, query_words}
-use Rattle.og_print.specs.Reprint.{AreProper}
-use Rattle.og_print.specs.Depths.{nests, IsNoDeeper}
+use Rattle.og_print.proofs.Spelling.{AreProper}
+use Rattle.og_print.proofs.Depths.{nests, IsNoDeeper}
 use Rattle.og_print.proofs.Nesting.{low, neither, no_deeper-nil}
 use Rattle.og_print.proofs.Reprints.{Part, Reprints, halves, one_spelled, none_spelled, agrees, recast, again-pure, again-bind, again-bind_where, again-map, again-or, again-like, again-counted, again-many, again-joined, again-optional, again-after, again-past, again-worded, again-single}
 use Rattle.og_print.proofs.ExpressionReprints.{again-name, again-expr}

@@ -11,8 +11,8 @@ use Rattle.og_syntax.proofs.Exact.{left_of, right_of, is_sort}
 use Rattle.og_syntax.proofs.EverySort.{everywhere, every_sort}
 use Rattle.og_parse.specs.Depth.{opened_after}
 use Rattle.og_print.specs.Words.{Word, Plain, word_sort, each, joined, behind, enclosed}
-use Rattle.og_print.specs.Reprint.{is_inner, AreWell, Spells, SpellAll, AreProper}
-use Rattle.og_print.specs.Depths.{sorts_of, IsNoDeeper}
+use Rattle.og_print.proofs.Spelling.{is_inner, AreWell, Spells, SpellAll, AreProper}
+use Rattle.og_print.proofs.Depths.{sorts_of, IsNoDeeper}
 use Rattle.og_print.proofs.Nesting.{round, no_deeper-nil, no_deeper-same, no_deeper-append, no_deeper-round}
 
 -- ---- words and the lexemes that spell them
