@@ -39,7 +39,7 @@ fn write_alias(alias: &Option<Name>, out: &mut Vec<u8>) -> Result<(), NoMemory>
 }
 
 // Appends a name and its alias.
-fn write_name(name: &Name, alias: &Option<Name>, out: &mut Vec<u8>) -> Result<(), NoMemory>
+fn write_aliased(name: &Name, alias: &Option<Name>, out: &mut Vec<u8>) -> Result<(), NoMemory>
     ensures { OnOk result (out.new.items ≡ with_words out.old.items (spec.name_words name.now alias.now)) }
 {
     named(name, out)?;
@@ -105,7 +105,7 @@ fn write_item_list(
 fn write_table(table: &FromText, out: &mut Vec<u8>) -> Result<(), NoMemory>
     ensures { OnOk result (out.new.items ≡ with_words out.old.items (spec.table_words table.now)) }
 {
-    write_name(&table.name, &table.alias, out)
+    write_aliased(&table.name, &table.alias, out)
 }
 
 // Appends a further table: after a comma, or after JOIN and with its condition.
@@ -163,7 +163,7 @@ fn write_sub(alloc: Global, semi: &SemiText, out: &mut Vec<u8>) -> Result<(), No
     plain(Sort::Select, out)?;
     plain(Sort::Star, out)?;
     plain(Sort::From, out)?;
-    write_name(&semi.name, &semi.alias, out)?;
+    write_aliased(&semi.name, &semi.alias, out)?;
     write_cond_clause(alloc, &semi.cond, out)?;
     Ok(())
 }
