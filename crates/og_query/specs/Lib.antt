@@ -1,0 +1,9 @@
+pub mod Algebra
+pub mod Conditions
+pub mod Expressions
+pub mod Fits
+pub mod Kinds
+pub mod Queries
+pub mod Sizes
+pub mod Steady
+pub mod Tables

@@ -1,0 +1,19 @@
+//! Typed statements, and what a query means on one day.
+#![tactic(auto)]
+
+mod condition;
+mod evaluator;
+mod expression;
+mod laws;
+mod query;
+mod typed;
+
+pub use condition::Cond;
+pub use evaluator::ordinary;
+pub use expression::Expr;
+pub use laws::{
+    answers_are_sets, answers_keep_the_size, fitting_values, one_condition_after_the_other,
+    tables_in_either_order,
+};
+pub use query::{Core, From1, Query, Rest, Semi};
+pub use typed::{Assign, Typed};
