@@ -1,0 +1,4 @@
+pub mod AlgebraLemmas
+pub mod Equations
+pub mod KindLemmas
+pub mod QueryLemmas

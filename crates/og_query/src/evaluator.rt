@@ -22,7 +22,6 @@ pub fn ordinary(
     requires steady { is_steady query.now ≡ true }
     ensures { (d : ℤ) → IfOk result (λ rows. rows.items ≡ ordinary_query d (rows_of names.now (tables_in tables.now)) query.now) }
 {
-    let _ = (query, names, tables);
     let _ = alloc;
     Err(NoMemory)
 }
