@@ -2,3 +2,5 @@ pub mod AlgebraLemmas
 pub mod Equations
 pub mod KindLemmas
 pub mod QueryLemmas
+pub mod TruthLemmas
+pub mod ValueLemmas

@@ -6,7 +6,9 @@ mod evaluator;
 mod expression;
 mod laws;
 mod query;
+mod truths;
 mod typed;
+mod values;
 
 pub use condition::Cond;
 pub use evaluator::ordinary;
