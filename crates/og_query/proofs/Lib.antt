@@ -4,3 +4,4 @@ pub mod KindLemmas
 pub mod QueryLemmas
 pub mod TruthLemmas
 pub mod ValueLemmas
+pub mod WalkLemmas

@@ -7,3 +7,4 @@ pub mod Queries
 pub mod Sizes
 pub mod Steady
 pub mod Tables
+pub mod Walk

@@ -9,6 +9,7 @@ mod query;
 mod truths;
 mod typed;
 mod values;
+mod walk;
 
 pub use condition::Cond;
 pub use evaluator::ordinary;
