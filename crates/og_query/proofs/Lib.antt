@@ -1,6 +1,7 @@
 pub mod AlgebraLemmas
 pub mod Equations
 pub mod KindLemmas
+pub mod NamedLemmas
 pub mod QueryLemmas
 pub mod TruthLemmas
 pub mod ValueLemmas

@@ -4,7 +4,9 @@
 mod condition;
 mod evaluator;
 mod expression;
+mod kept;
 mod laws;
+mod named;
 mod query;
 mod truths;
 mod typed;

@@ -8,7 +8,7 @@ ghost use Rattle.og_query.specs.Steady.{is_steady_cond};
 use crate::condition::Cond;
 use crate::values::value;
 use og_base::{FixedPeriod, NoMemory};
-use og_value::{Cmp, FixedValue, Pred};
+use og_value::{Cmp, FixedRow, FixedValue, Pred};
 use sqlite_items::Items;
 use std::alloc::Global;
 use std::cmp::Ordering;
@@ -96,7 +96,7 @@ fn contains(period: &FixedValue, day: &FixedValue) -> bool
 
 // Whether the condition holds of the row.
 #[cycle(truths)]
-pub(crate) fn holds(alloc: Global, cond: &Cond, row: &[FixedValue]) -> Result<bool, NoMemory>
+pub(crate) fn holds(alloc: Global, cond: &Cond, row: &FixedRow) -> Result<bool, NoMemory>
     requires steady { is_steady_cond cond.now ≡ true }
     ensures { (d : ℤ) → IfOk result (λ b. b ≡ meant.truth d row.now cond.now) }
 {
@@ -125,7 +125,7 @@ pub(crate) fn holds(alloc: Global, cond: &Cond, row: &[FixedValue]) -> Result<bo
 
 // Whether all of the conditions hold of the row.
 #[cycle(truths)]
-fn all_hold(alloc: Global, parts: &Items<Cond>, row: &[FixedValue]) -> Result<bool, NoMemory>
+fn all_hold(alloc: Global, parts: &Items<Cond>, row: &FixedRow) -> Result<bool, NoMemory>
     requires steady { list_all is_steady_cond parts.now ≡ true }
     ensures { (d : ℤ) → IfOk result (λ b. b ≡ list_all (meant.truth d row.now) parts.now) }
 {
@@ -139,7 +139,7 @@ fn all_hold(alloc: Global, parts: &Items<Cond>, row: &[FixedValue]) -> Result<bo
 
 // Whether one of the conditions holds of the row.
 #[cycle(truths)]
-fn any_holds(alloc: Global, parts: &Items<Cond>, row: &[FixedValue]) -> Result<bool, NoMemory>
+fn any_holds(alloc: Global, parts: &Items<Cond>, row: &FixedRow) -> Result<bool, NoMemory>
     requires steady { list_all is_steady_cond parts.now ≡ true }
     ensures { (d : ℤ) → IfOk result (λ b. b ≡ list_any (meant.truth d row.now) parts.now) }
 {

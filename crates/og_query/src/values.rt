@@ -107,17 +107,25 @@ fn call(func: Func, values: &[FixedValue]) -> FixedValue
     }
 }
 
+// The value at the place of the row, and the number 0 where the row has no such place.
+fn column(row: &FixedRow, place: usize) -> Result<FixedValue, NoMemory>
+    ensures { IfOk result (λ v. v ≡ slice_index_or row.now place no_value) }
+{
+    if place < row.len() {
+        copy_value(row.value(place))
+    } else {
+        Ok(FixedValue::Int(0))
+    }
+}
+
 // The value of the expression on the row.
 #[cycle(values)]
-pub(crate) fn value(alloc: Global, expr: &Expr, row: &[FixedValue]) -> Result<FixedValue, NoMemory>
+pub(crate) fn value(alloc: Global, expr: &Expr, row: &FixedRow) -> Result<FixedValue, NoMemory>
     requires steady { is_steady_expr expr.now ≡ true }
     ensures { (d : ℤ) → IfOk result (λ v. v ≡ meaning d row.now expr.now) }
 {
     match expr {
-        Expr::Column(place) => match row.get(*place) {
-            Some(value) => copy_value(value),
-            None => Ok(FixedValue::Int(0)),
-        },
+        Expr::Column(place) => column(row, *place),
         Expr::Lit(value) => fixed_value(value),
         Expr::Call { func, args } => {
             let values = values_of(alloc, args, row)?;
@@ -131,7 +139,7 @@ pub(crate) fn value(alloc: Global, expr: &Expr, row: &[FixedValue]) -> Result<Fi
 pub(crate) fn values_of(
     alloc: Global,
     exprs: &Items<Expr>,
-    row: &[FixedValue],
+    row: &FixedRow,
 ) -> Result<Vec<FixedValue>, NoMemory>
     requires steady { list_all is_steady_expr exprs.now ≡ true }
     ensures { (d : ℤ) → IfOk result (λ vs. vs.items ≡ map (meaning d row.now) exprs.now) }
