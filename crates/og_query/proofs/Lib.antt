@@ -1,4 +1,5 @@
 pub mod AlgebraLemmas
+pub mod CombinationLemmas
 pub mod Equations
 pub mod KindLemmas
 pub mod NamedLemmas

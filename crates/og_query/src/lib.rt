@@ -1,6 +1,7 @@
 //! Typed statements, and what a query means on one day.
 #![tactic(auto)]
 
+mod algebra;
 mod condition;
 mod evaluator;
 mod expression;
