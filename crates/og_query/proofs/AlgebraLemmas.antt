@@ -37,29 +37,29 @@ module _ {F : Type 0} {cmp : F → F → Ordering} (o : IsExactOrder cmp) where
   -- UNION has the members of both
   pub Contains-union : (xs ys : List F) (z : F) → Contains (union cmp xs ys) z ↔ (Contains xs z ⊎ Contains ys z)
   Contains-union xs ys z = (
-      λ c. Contains-append_cases xs ys z (Contains-from_set_of cmp (xs ++ ys) z c),
-      λ h. Contains-set_of o.exact (xs ++ ys) z (⊎_elim (Contains-append_left xs ys z) (Contains-append_right xs ys z) h),
-    )
+    λ c. Contains-append_cases xs ys z (Contains-from_set_of cmp (xs ++ ys) z c),
+    λ h. Contains-set_of o.exact (xs ++ ys) z (⊎_elim (Contains-append_left xs ys z) (Contains-append_right xs ys z) h),
+  )
 
   -- EXCEPT has those of the left that the right lacks
   pub Contains-except : (xs ys : List F) (z : F) → Contains (except cmp xs ys) z ↔ (Contains xs z × (¬ Contains ys z))
   Contains-except xs ys z = (
-      λ c. (
-        Contains-from_filter (λ x. not (is_in cmp x ys)) xs z c,
-        λ d. not_true (is_in cmp z ys) (filter_passes-member (λ x. not (is_in cmp x ys)) xs z c) (finds z ys d),
-      ),
-      λ h. Contains-filter (λ x. not (is_in cmp x ys)) xs z (not_not (is_in cmp z ys) (λ t. h.1 (found z ys t))) h.0,
-    )
+    λ c. (
+      Contains-from_filter (λ x. not (is_in cmp x ys)) xs z c,
+      λ d. not_true (is_in cmp z ys) (filter_passes-member (λ x. not (is_in cmp x ys)) xs z c) (finds z ys d),
+    ),
+    λ h. Contains-filter (λ x. not (is_in cmp x ys)) xs z (not_not (is_in cmp z ys) (λ t. h.1 (found z ys t))) h.0,
+  )
 
   -- INTERSECT has the members that both have
   pub Contains-intersect : (xs ys : List F) (z : F) → Contains (intersect cmp xs ys) z ↔ (Contains xs z × Contains ys z)
   Contains-intersect xs ys z = (
-      λ c. (
-        Contains-from_filter (λ x. is_in cmp x ys) xs z c,
-        found z ys (filter_passes-member (λ x. is_in cmp x ys) xs z c),
-      ),
-      λ h. Contains-filter (λ x. is_in cmp x ys) xs z (finds z ys h.1) h.0,
-    )
+    λ c. (
+      Contains-from_filter (λ x. is_in cmp x ys) xs z c,
+      found z ys (filter_passes-member (λ x. is_in cmp x ys) xs z c),
+    ),
+    λ h. Contains-filter (λ x. is_in cmp x ys) xs z (finds z ys h.1) h.0,
+  )
 
   -- a test that tells nothing of two lists apart tells nothing of their sets
   pub same_set_by_tests : (xs ys : List F) → ((p : F → Bool) → list_any p xs ≡ list_any p ys) → set_of cmp xs ≡ set_of cmp ys

@@ -29,7 +29,7 @@ fn add_image(
     requires places { length places.now ≡ length core.now.tables }
     ensures { (d : ℤ) → OnOk result (images.new.items ≡ images.old.items
         ++ map (meant.image d core.now.items) (filter (meant.is_kept d (rows_of names.now (tables_in tables.now)) core.now)
-            (row_from (map (λ table. rows_of names.now (tables_in tables.now) table.name) core.now.tables) places.now ∷ []))) }
+        (row_from (map (λ table. rows_of names.now (tables_in tables.now) table.name) core.now.tables) places.now ∷ []))) }
 {
     let row = joined(alloc, core.tables.as_slice(), names, tables, places)?;
     if !is_kept(alloc, core, names, tables, &row)? {
@@ -50,7 +50,7 @@ fn images(
     requires steady { is_steady_core core.now ≡ true }
     ensures { (d : ℤ) → IfOk result (λ images. images.items
         ≡ map (meant.image d core.now.items) (filter (meant.is_kept d (rows_of names.now (tables_in tables.now)) core.now)
-            (combinations (map (λ table. rows_of names.now (tables_in tables.now) table.name) core.now.tables)))) }
+        (combinations (map (λ table. rows_of names.now (tables_in tables.now) table.name) core.now.tables)))) }
 {
     let sizes = sizes_of(alloc, core.tables.as_slice(), names, tables)?;
     let mut places = first_places(alloc, sizes.as_slice())?;

@@ -9,6 +9,8 @@ mod kept;
 mod laws;
 mod named;
 mod query;
+#[cfg(test)]
+mod tests;
 mod truths;
 mod typed;
 mod values;

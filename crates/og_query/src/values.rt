@@ -91,7 +91,9 @@ fn call(func: Func, values: &[FixedValue]) -> FixedValue
     ensures { result ≡ call_of func values.now }
 {
     match (func, values) {
-        (Func::Least, [FixedValue::Date(a), FixedValue::Date(b)]) => FixedValue::Date(least(*a, *b)),
+        (Func::Least, [FixedValue::Date(a), FixedValue::Date(b)]) => FixedValue::Date(least(
+            *a, *b,
+        )),
         (Func::Greatest, [FixedValue::Date(a), FixedValue::Date(b)]) => {
             FixedValue::Date(greatest(*a, *b))
         }

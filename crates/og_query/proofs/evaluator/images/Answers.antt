@@ -28,8 +28,9 @@ walk-init c =
       places = sym (ap length first ∙ length-map c.in_ok-sizes.sizes.items (λ _. 0));
       some = λ t. sym (rows_everywhere lists c.in_ok-sizes.sizes.items is c.all_above_zero-more.result more) ∙ t;
       left = λ d.
-      ap₂ (λ images left. images ++ map (image d c.args.core.now.items) (filter (is_kept d (rows_of c.args.names.now (tables_in c.args.tables.now)) c.args.core.now) left))
-      c.new-images.ensures.items (walk_begins lists c.in_ok-sizes.sizes.items is c.all_above_zero-more.result c.in_ok-places.places.items more first) }
+          ap₂ (λ images left. images ++ map (image d c.args.core.now.items) (filter (is_kept d (rows_of c.args.names.now (tables_in c.args.tables.now)) c.args.core.now) left))
+          c.new-images.ensures.items (walk_begins lists c.in_ok-sizes.sizes.items is c.all_above_zero-more.result c.in_ok-places.places.items more first);
+    }
 
 pub walk-smaller : goal.walk-smaller
 walk-smaller c =
@@ -50,10 +51,11 @@ walk-preserved c =
       places = c.walk.invariant.places ∙ sym c.advance-more.ensures.length;
       some = λ _. c.walk.invariant.some c.walk-test.true;
       left = λ d.
-      walk_more (is_kept d (rows_of c.args.names.now (tables_in c.args.tables.now)) c.args.core.now) (image d c.args.core.now.items) (row_from lists c.walk.places.items) _ _ _ _ _ goes
-      (c.in_ok-add_image.ensures d
-      ∙ ap (λ places. c.walk.images.items ++ map (image d c.args.core.now.items) (filter (is_kept d (rows_of c.args.names.now (tables_in c.args.tables.now)) c.args.core.now) (row_from lists places ∷ []))) c.as_slice-in-walk.ensures.value)
-      (c.walk.invariant.left d) }
+          walk_more (is_kept d (rows_of c.args.names.now (tables_in c.args.tables.now)) c.args.core.now) (image d c.args.core.now.items) (row_from lists c.walk.places.items) _ _ _ _ _ goes
+          (c.in_ok-add_image.ensures d
+          ∙ ap (λ places. c.walk.images.items ++ map (image d c.args.core.now.items) (filter (is_kept d (rows_of c.args.names.now (tables_in c.args.tables.now)) c.args.core.now) (row_from lists places ∷ []))) c.as_slice-in-walk.ensures.value)
+          (c.walk.invariant.left d);
+    }
 
 pub returns : goal.returns
 returns c = λ d.

@@ -14,7 +14,8 @@ invariant-walk l = record {
       ++ map (image d l.core.items) (filter (is_kept d (rows_of l.names (tables_in l.tables)) l.core)
       (left_of (map (λ table. rows_of l.names (tables_in l.tables) table.name) l.core.tables) (if l.more then Some l.places.items else None)))
       ≡ map (image d l.core.items) (filter (is_kept d (rows_of l.names (tables_in l.tables)) l.core)
-      (combinations (map (λ table. rows_of l.names (tables_in l.tables) table.name) l.core.tables))) }
+      (combinations (map (λ table. rows_of l.names (tables_in l.tables) table.name) l.core.tables)));
+}
 
 abbrev pub decreases-walk : goal.decreases-walk
 decreases-walk l = length (left_of (map (λ table. rows_of l.names (tables_in l.tables) table.name) l.core.tables) (if l.more then Some l.places.items else None))

@@ -13,4 +13,5 @@ back-preserved c = record {
   wrapped = back_here c.args.sizes.now c.args.places.now.items c.back.places.items _ c.back.i (omega (arith, c.back-test.true)) c.back.invariant.within c.requires c.back.invariant.wrapped c.back.invariant.ended;
   ended =
       ends_here c.args.sizes.now c.args.places.now.items c.back.places.items _ c.back.i (omega (arith, c.back-test.true)) c.back.invariant.within c.requires c.back.invariant.wrapped c.back.invariant.ended
-      c.index.result.now c.index.ensures (at_most_next _ _ _ c.saturating_add-next.ensures c.if-next-sizes.false) }
+      c.index.result.now c.index.ensures (at_most_next _ _ _ c.saturating_add-next.ensures c.if-next-sizes.false);
+}

@@ -9,4 +9,5 @@ abbrev pub invariant-back : goal.invariant-back
 invariant-back l = record {
   within : l.i ≤ length l.sizes;
   wrapped : l.places.items ≡ take l.i l.fn.places.items ++ zeros (drop l.i l.sizes);
-  ended : next_places (drop l.i l.sizes) (drop l.i l.fn.places.items) ≡ None }
+  ended : next_places (drop l.i l.sizes) (drop l.i l.fn.places.items) ≡ None;
+}
