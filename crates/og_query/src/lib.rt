@@ -9,6 +9,7 @@ mod kept;
 mod laws;
 mod named;
 mod query;
+mod steady;
 #[cfg(test)]
 mod tests;
 mod truths;
