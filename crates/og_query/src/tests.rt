@@ -104,6 +104,14 @@ fn query(alloc: Global) -> Result<Query, Fail>
     })
 }
 
+// A copy of that query.
+fn copied(alloc: Global) -> Result<Query, Fail>
+    ensures { IfOk result (λ query. is_steady query ≡ true) }
+{
+    let query = query(alloc)?;
+    Ok(query.copy(alloc)?)
+}
+
 // The names of the tables.
 fn names(alloc: Global) -> Result<Vec<Name>, Fail> {
     let mut names = Vec::new(alloc);
@@ -131,12 +139,19 @@ fn tables(alloc: Global) -> Result<Vec<Vec<FixedRow>>, Fail> {
     Ok(tables)
 }
 
+// The rows that the query has over these tables.
+fn answer(alloc: Global, query: &Query) -> Result<Vec<FixedRow>, Fail>
+    requires steady { is_steady query.now ≡ true }
+{
+    let names = names(alloc)?;
+    let tables = tables(alloc)?;
+    Ok(ordinary(alloc, query, names.as_slice(), tables.as_slice())?)
+}
+
 #[test]
 fn a_query_joins_tests_and_takes_away(rt: HostRuntime) -> Result<(), Fail> {
-    let names = names(rt.alloc())?;
-    let tables = tables(rt.alloc())?;
     let query = query(rt.alloc())?;
-    let answer = ordinary(rt.alloc(), &query, names.as_slice(), tables.as_slice())?;
+    let answer = answer(rt.alloc(), &query)?;
     assert_eq!(rt; answer.len(), 1);
     assert!(rt; answer[0] == pair(rt.alloc(), 1, 5)?);
     Ok(())
@@ -144,12 +159,9 @@ fn a_query_joins_tests_and_takes_away(rt: HostRuntime) -> Result<(), Fail> {
 
 #[test]
 fn a_copy_of_a_query_has_its_rows(rt: HostRuntime) -> Result<(), Fail> {
-    let names = names(rt.alloc())?;
-    let tables = tables(rt.alloc())?;
-    let query = query(rt.alloc())?;
-    let copy = query.copy(rt.alloc())?;
-    let answer = ordinary(rt.alloc(), &query, names.as_slice(), tables.as_slice())?;
-    let again = ordinary(rt.alloc(), &copy, names.as_slice(), tables.as_slice())?;
-    assert!(rt; answer == again);
+    let copy = copied(rt.alloc())?;
+    let answer = answer(rt.alloc(), &copy)?;
+    assert_eq!(rt; answer.len(), 1);
+    assert!(rt; answer[0] == pair(rt.alloc(), 1, 5)?);
     Ok(())
 }
