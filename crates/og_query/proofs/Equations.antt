@@ -1,5 +1,5 @@
 -- The equations of the folds over expressions and conditions, one for each variant, and the inductions over both.
-use Rattle.std.proofs.Common.{◌≡◌, ◌&&◌, ℕ, ℤ, Bool, true, not, List, [], ◌∷◌, Option, Some, map, slice_get, slice_index_or, ap, sym, subst, ◌∙◌}
+use Rattle.std.proofs.Common.{◌≡◌, ◌&&◌, ℕ, ℤ, true, not, List, [], ◌∷◌, Some, map, slice_get, slice_index_or, ap, sym, subst, ◌∙◌}
 use Rattle.std.specs.List.{AllByRecursion, list_all, list_any}
 use Rattle.std.proofs.lemmas.List.Folds.{list_all-map}
 use Rattle.og_base.proofs.SetMembers.{list_any-map}
@@ -18,7 +18,7 @@ use Rattle.og_query.specs.Steady.{is_steady_value, is_steady_expr, is_steady_con
 use Rattle.og_query.specs.declared.expression.Expr.{Expr, fold-Expr, fold-roll-Expr, ind-Expr, map-Expr, roll-Expr}
 use Rattle.og_query.specs.declared.expression.Expr.TheVariants.{Column, Lit, Call, rolls-Column, rolls-Lit, rolls-Call}
 use Rattle.og_query.specs.declared.expression.Expr.TheOpen as e
-use Rattle.og_query.specs.declared.condition.Cond.{Cond, fold-Cond, fold-roll-Cond, ind-Cond, roll-Cond}
+use Rattle.og_query.specs.declared.condition.Cond.{Cond, fold-Cond, fold-roll-Cond}
 use Rattle.og_query.specs.declared.condition.Cond.TheVariants.{And, Or, Not, Compare, Relate, Empty, Contains, rolls-And, rolls-Or, rolls-Not, rolls-Compare, rolls-Relate, rolls-Empty, rolls-Contains}
 use Rattle.og_query.specs.declared.condition.Cond.TheOpen as c
 
@@ -40,135 +40,173 @@ induction-Expr P column lit call = ind-Expr P (λ x y is. subst (λ z. P (roll-E
 
 -- a fold over expressions
 module _ {A : Type 0} (step : e.Expr-F A → A) where
+  -- of a column
   fold-Column : (place : ℕ) → fold-Expr A step (Column place) ≡ step (e.Column place)
   fold-Column place = ap (fold-Expr A step) (sym (rolls-Column place)) ∙ fold-roll-Expr A step (e.Column place)
 
+  -- of a literal
   fold-Lit : (value : Value) → fold-Expr A step (Lit value) ≡ step (e.Lit value)
   fold-Lit value = ap (fold-Expr A step) (sym (rolls-Lit value)) ∙ fold-roll-Expr A step (e.Lit value)
 
+  -- of a call
   fold-Call : (func : Func) (args : List Expr) → fold-Expr A step (Call func args) ≡ step (e.Call func (map (fold-Expr A step) args))
   fold-Call func args = ap (fold-Expr A step) (sym (rolls-Call func args)) ∙ fold-roll-Expr A step (e.Call func args)
 
 -- a fold over conditions
 module _ {A : Type 0} (step : c.Cond-F A → A) where
+  -- of AND
   fold-And : (parts : List Cond) → fold-Cond A step (And parts) ≡ step (c.And (map (fold-Cond A step) parts))
   fold-And parts = ap (fold-Cond A step) (sym (rolls-And parts)) ∙ fold-roll-Cond A step (c.And parts)
 
+  -- of OR
   fold-Or : (parts : List Cond) → fold-Cond A step (Or parts) ≡ step (c.Or (map (fold-Cond A step) parts))
   fold-Or parts = ap (fold-Cond A step) (sym (rolls-Or parts)) ∙ fold-roll-Cond A step (c.Or parts)
 
+  -- of NOT
   fold-Not : (part : Cond) → fold-Cond A step (Not part) ≡ step (c.Not (fold-Cond A step part))
   fold-Not part = ap (fold-Cond A step) (sym (rolls-Not part)) ∙ fold-roll-Cond A step (c.Not part)
 
+  -- of a comparison
   fold-Compare : (op : Cmp) (left right : Expr) → fold-Cond A step (Compare op left right) ≡ step (c.Compare op left right)
   fold-Compare op left right = ap (fold-Cond A step) (sym (rolls-Compare op left right)) ∙ fold-roll-Cond A step (c.Compare op left right)
 
+  -- of a predicate
   fold-Relate : (pred : Pred) (left right : Expr) → fold-Cond A step (Relate pred left right) ≡ step (c.Relate pred left right)
   fold-Relate pred left right = ap (fold-Cond A step) (sym (rolls-Relate pred left right)) ∙ fold-roll-Cond A step (c.Relate pred left right)
 
+  -- of EMPTY
   fold-Empty : (period : Expr) → fold-Cond A step (Empty period) ≡ step (c.Empty period)
   fold-Empty period = ap (fold-Cond A step) (sym (rolls-Empty period)) ∙ fold-roll-Cond A step (c.Empty period)
 
+  -- of CONTAINS
   fold-Contains : (period day : Expr) → fold-Cond A step (Contains period day) ≡ step (c.Contains period day)
   fold-Contains period day = ap (fold-Cond A step) (sym (rolls-Contains period day)) ∙ fold-roll-Cond A step (c.Contains period day)
 
 -- the value of an expression
 module _ (d : ℤ) (row : List FixedValue) where
+  -- of a column
   pub meaning-Column : (place : ℕ) → meaning d row (Column place) ≡ slice_index_or row place no_value
   meaning-Column = fold-Column (value_step d row)
 
+  -- of a literal
   pub meaning-Lit : (value : Value) → meaning d row (Lit value) ≡ value_at value d
   meaning-Lit = fold-Lit (value_step d row)
 
+  -- of a call
   pub meaning-Call : (func : Func) (args : List Expr) → meaning d row (Call func args) ≡ call_of func (map (meaning d row) args)
   meaning-Call = fold-Call (value_step d row)
 
 -- the truth of a condition
 module _ (d : ℤ) (row : List FixedValue) where
+  -- of AND
   pub truth-And : (parts : List Cond) → truth d row (And parts) ≡ list_all (truth d row) parts
   truth-And parts = fold-And (truth_step d row) parts ∙ list_all-map (λ part. part) (truth d row) parts
 
+  -- of OR
   pub truth-Or : (parts : List Cond) → truth d row (Or parts) ≡ list_any (truth d row) parts
   truth-Or parts = fold-Or (truth_step d row) parts ∙ list_any-map (λ part. part) (truth d row) parts
 
+  -- of NOT
   pub truth-Not : (part : Cond) → truth d row (Not part) ≡ not (truth d row part)
   truth-Not = fold-Not (truth_step d row)
 
+  -- of a comparison
   pub truth-Compare : (op : Cmp) (left right : Expr) → truth d row (Compare op left right) ≡ compares op (meaning d row left) (meaning d row right)
   truth-Compare = fold-Compare (truth_step d row)
 
+  -- of a predicate
   pub truth-Relate : (pred : Pred) (left right : Expr) → truth d row (Relate pred left right) ≡ relates pred (meaning d row left) (meaning d row right)
   truth-Relate = fold-Relate (truth_step d row)
 
+  -- of EMPTY
   pub truth-Empty : (period : Expr) → truth d row (Empty period) ≡ is_empty (meaning d row period)
   truth-Empty = fold-Empty (truth_step d row)
 
+  -- of CONTAINS
   pub truth-Contains : (period day : Expr) → truth d row (Contains period day) ≡ contains (meaning d row period) (meaning d row day)
   truth-Contains = fold-Contains (truth_step d row)
 
 -- the kind of an expression
 module _ (kinds : List Kind) where
+  -- of a column
   pub kind_in-Column : (place : ℕ) → kind_in kinds (Column place) ≡ slice_get kinds place
   kind_in-Column = fold-Column (kind_step kinds)
 
+  -- of a literal
   pub kind_in-Lit : (value : Value) → kind_in kinds (Lit value) ≡ Some (kind_of value)
   kind_in-Lit = fold-Lit (kind_step kinds)
 
+  -- of a call
   pub kind_in-Call : (func : Func) (args : List Expr) → kind_in kinds (Call func args) ≡ call_kind_of func (all_kinds (map (kind_in kinds) args))
   kind_in-Call = fold-Call (kind_step kinds)
 
 -- whether a condition fits the kinds of a row
 module _ (kinds : List Kind) where
+  -- of AND
   pub fits-And : (parts : List Cond) → fits kinds (And parts) ≡ list_all (fits kinds) parts
   fits-And parts = fold-And (fit_step kinds) parts ∙ list_all-map (λ part. part) (fits kinds) parts
 
+  -- of OR
   pub fits-Or : (parts : List Cond) → fits kinds (Or parts) ≡ list_all (fits kinds) parts
   fits-Or parts = fold-Or (fit_step kinds) parts ∙ list_all-map (λ part. part) (fits kinds) parts
 
+  -- of NOT
   pub fits-Not : (part : Cond) → fits kinds (Not part) ≡ fits kinds part
   fits-Not = fold-Not (fit_step kinds)
 
+  -- of a comparison
   pub fits-Compare : (op : Cmp) (left right : Expr) → fits kinds (Compare op left right) ≡ are_comparable (kind_in kinds left) (kind_in kinds right)
   fits-Compare = fold-Compare (fit_step kinds)
 
+  -- of a predicate
   pub fits-Relate : (pred : Pred) (left right : Expr) → fits kinds (Relate pred left right) ≡ (is_period (kind_in kinds left) && is_period (kind_in kinds right))
   fits-Relate = fold-Relate (fit_step kinds)
 
+  -- of EMPTY
   pub fits-Empty : (period : Expr) → fits kinds (Empty period) ≡ is_period (kind_in kinds period)
   fits-Empty = fold-Empty (fit_step kinds)
 
+  -- of CONTAINS
   pub fits-Contains : (period day : Expr) → fits kinds (Contains period day) ≡ (is_period (kind_in kinds period) && is_date (kind_in kinds day))
   fits-Contains = fold-Contains (fit_step kinds)
 
--- whether an expression is the same on all days
+-- whether an expression is the same on all days: of a column
 pub is_steady-Column : (place : ℕ) → is_steady_expr (Column place) ≡ true
 is_steady-Column = fold-Column steady_step
 
+-- of a literal
 pub is_steady-Lit : (value : Value) → is_steady_expr (Lit value) ≡ is_steady_value value
 is_steady-Lit = fold-Lit steady_step
 
+-- of a call
 pub is_steady-Call : (func : Func) (args : List Expr) → is_steady_expr (Call func args) ≡ list_all is_steady_expr args
 is_steady-Call func args = fold-Call steady_step func args ∙ list_all-map (λ arg. arg) is_steady_expr args
 
--- whether a condition is the same on all days
+-- whether a condition is the same on all days: of AND
 pub is_steady-And : (parts : List Cond) → is_steady_cond (And parts) ≡ list_all is_steady_cond parts
 is_steady-And parts = fold-And steady_part parts ∙ list_all-map (λ part. part) is_steady_cond parts
 
+-- of OR
 pub is_steady-Or : (parts : List Cond) → is_steady_cond (Or parts) ≡ list_all is_steady_cond parts
 is_steady-Or parts = fold-Or steady_part parts ∙ list_all-map (λ part. part) is_steady_cond parts
 
+-- of NOT
 pub is_steady-Not : (part : Cond) → is_steady_cond (Not part) ≡ is_steady_cond part
 is_steady-Not = fold-Not steady_part
 
+-- of a comparison
 pub is_steady-Compare : (op : Cmp) (left right : Expr) → is_steady_cond (Compare op left right) ≡ (is_steady_expr left && is_steady_expr right)
 is_steady-Compare = fold-Compare steady_part
 
+-- of a predicate
 pub is_steady-Relate : (pred : Pred) (left right : Expr) → is_steady_cond (Relate pred left right) ≡ (is_steady_expr left && is_steady_expr right)
 is_steady-Relate = fold-Relate steady_part
 
+-- of EMPTY
 pub is_steady-Empty : (period : Expr) → is_steady_cond (Empty period) ≡ is_steady_expr period
 is_steady-Empty = fold-Empty steady_part
 
+-- of CONTAINS
 pub is_steady-Contains : (period day : Expr) → is_steady_cond (Contains period day) ≡ (is_steady_expr period && is_steady_expr day)
 is_steady-Contains = fold-Contains steady_part
 

@@ -13,7 +13,6 @@ use Rattle.og_value.specs.declared.value.Value.TheVariants as v
 use Rattle.og_query.specs.Expressions.{no_value, call_of, meaning}
 use Rattle.og_query.specs.Kinds.{fixed_kind, call_kind, call_kind_of, all_kinds, with_kind, kind_in}
 use Rattle.og_query.specs.declared.expression.Expr.{Expr}
-use Rattle.og_query.specs.declared.expression.Expr.TheVariants.{Column, Lit, Call}
 use Rattle.og_query.proofs.Equations.{induction-Expr, meaning-Column, meaning-Lit, meaning-Call, kind_in-Column, kind_in-Lit, kind_in-Call}
 
 -- the value at a place has the kind at that place

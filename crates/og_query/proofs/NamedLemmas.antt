@@ -1,5 +1,5 @@
 -- The rows of a name, found place by place, and rows joined table by table.
-use Rattle.std.proofs.Common.{◌≡◌, ◌++◌, ◌<◌, ◌≤◌, ℕ, zero, suc, min, Bool, true, false, List, [], ◌∷◌, length, get_or, take, drop, map, slice_index_or, if◌then◌else◌, refl, sym, ap, subst, ◌∙◌, Vec, Global, arith}
+use Rattle.std.proofs.Common.{◌≡◌, ◌++◌, ◌<◌, ◌≤◌, ℕ, zero, suc, min, false, List, [], ◌∷◌, length, get_or, take, drop, map, slice_index_or, if◌then◌else◌, refl, sym, ap, subst, ◌∙◌, Vec, Global, arith}
 use Rattle.std.specs.Str.{bytes_eq}
 use Rattle.std.proofs.lemmas.List.{append-nil, append_assoc}
 use Rattle.og_query.specs.Queries.{Fixed}

@@ -1,5 +1,5 @@
 -- What is known of the answers of queries: that they rise, and how many rows they have.
-use Rattle.std.proofs.Common.{◌≡◌, ◌++◌, ◌+◌, ◌*◌, ◌≤◌, ◌&&◌, ℕ, ℤ, not, List, [], ◌∷◌, length, map, filter, fold, refl, sym, ap, subst, ◌∙◌, arith}
+use Rattle.std.proofs.Common.{◌≡◌, ◌++◌, ◌*◌, ◌≤◌, ℕ, ℤ, not, List, [], ◌∷◌, length, map, filter, fold, sym, ap, subst, ◌∙◌, arith}
 use Rattle.std.specs.Cmp.Lexicographic.{slice_cmp}
 use Rattle.std.specs.List.Sorted.{IsStrictlySortedBy}
 use Rattle.std.proofs.Math.Nat.{mul-one, mul_assoc}
@@ -71,6 +71,7 @@ module _ (d : ℤ) (rows : Named) where
   combined_keeps_size op.Except xs ys m n a b = omega (arith, a, length-filter_le (λ x. not (is_in row_order x ys)) xs)
   combined_keeps_size op.Intersect xs ys m n a b = omega (arith, a, length-filter_le (λ x. is_in row_order x ys) xs)
 
+  -- an answer of at most that size, with further cores combined with it, has at most the size of them all
   rests_keep_size : (rests : List Rest) (answer : List Fixed) (size : ℕ) → length answer ≤ size
       → length (fold (λ answer rest. combined rest.op answer (core_rows d rows rest.core)) answer rests)
       ≤ fold (λ size rest. combined_size rest.op size (core_size (λ name. length (rows name)) rest.core)) size rests

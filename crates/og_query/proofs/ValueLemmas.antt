@@ -1,5 +1,5 @@
 -- Steps of the loops and calls that find the values of expressions.
-use Rattle.std.proofs.Common.{◌≡◌, ◌++◌, ◌+◌, ◌<◌, ℕ, ℤ, zero, suc, Bool, true, List, [], ◌∷◌, length, get_or, take, map, Some, slice_get, refl, sym, ap, ◌∙◌, arith}
+use Rattle.std.proofs.Common.{◌≡◌, ◌++◌, ◌+◌, ◌<◌, ℕ, ℤ, true, List, [], ◌∷◌, length, get_or, take, map, Some, slice_get, sym, ap, ◌∙◌}
 use Rattle.std.specs.List.{list_all}
 use Rattle.std.proofs.lemmas.List.{append_assoc, map_more, take_more}
 use Rattle.std.proofs.lemmas.Option.{get_or_from_slice_get, slice_get_within}

@@ -1,9 +1,8 @@
 -- The walk over all combinations: its places, step by step, and that it leaves none out.
-use Rattle.std.proofs.Common.{◌≡◌, ◌++◌, ◌+◌, ◌-◌, ◌<◌, ◌≤◌, ℕ, zero, suc, min, nat_lt, Bool, true, false, List, [], ◌∷◌, Option, Some, None, length, get_or, take, drop, set, map, if◌then◌else◌, refl, sym, ap, ap₂, subst, ◌∙◌, arith}
+use Rattle.std.proofs.Common.{◌≡◌, ◌++◌, ◌+◌, ◌<◌, ◌≤◌, ℕ, zero, suc, min, List, [], ◌∷◌, Some, None, length, get_or, take, drop, set, if◌then◌else◌, refl, sym, ap, ap₂, subst, ◌∙◌, arith}
 use Rattle.std.proofs.Math.Seq.{drop-cons}
 use Rattle.std.proofs.lemmas.Bool.{lt-ltb, le-ltb}
-use Rattle.og_query.specs.Algebra.{combinations}
-use Rattle.og_query.specs.Walk.{zeros, stepped, next_places, row_from, left_from, left_of}
+use Rattle.og_query.specs.Walk.{zeros, stepped, next_places}
 
 -- a place in front of others is the place of the list
 get_behind : (xs zs : List ℕ) (j place : ℕ) → j < length xs → place ≡ get_or (take (suc j) xs ++ zs) j place → place ≡ get_or xs j 0

@@ -13,7 +13,6 @@ use Rattle.og_value.specs.declared.term.Pred.TheVariants as pred
 use Rattle.og_value.specs.declared.value.FixedValue.{FixedValue}
 use Rattle.og_value.specs.declared.value.FixedValue.TheVariants as f
 use Rattle.og_query.specs.Expressions.{meaning}
-use Rattle.og_query.specs.declared.expression.Expr.{Expr}
 use Rattle.og_query.specs.declared.condition.Cond.{Cond, fold-Cond}
 use Rattle.og_query.specs.declared.condition.Cond.TheOpen.{Cond-F, And, Or, Not, Compare, Relate, Empty, Contains}
 

@@ -1,5 +1,5 @@
 -- What an expression is on a row of one day, and of which kind it is.
-use Rattle.std.specs.Prelude.{ℤ, pos, List, [], ◌∷◌, Option, Some, None, slice_index_or}
+use Rattle.std.specs.Prelude.{ℤ, pos, List, [], ◌∷◌, slice_index_or}
 use Rattle.og_time.specs.FixedOperations.{least_of, greatest_of, start_of, end_of, period_of, common_of}
 use Rattle.og_value.specs.Values.{value_at}
 use Rattle.og_value.specs.declared.term.Func.{Func}

@@ -12,7 +12,6 @@ use Rattle.og_query.specs.Conditions.{truth}
 use Rattle.og_query.specs.declared.expression.Expr.{Expr}
 use Rattle.og_query.specs.declared.query.Semi.{Semi}
 use Rattle.og_query.specs.declared.query.Core.{Core}
-use Rattle.og_query.specs.declared.query.Rest.{Rest}
 use Rattle.og_query.specs.declared.query.Query.{Query}
 
 -- a row of one day

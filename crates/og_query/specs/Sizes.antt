@@ -1,5 +1,5 @@
 -- Size: how many rows an answer has at most, where each name has so many.
-use Rattle.std.specs.Prelude.{◌+◌, ◌*◌, ℕ, List, map, fold}
+use Rattle.std.specs.Prelude.{◌+◌, ◌*◌, ℕ, List, fold}
 use Rattle.og_value.specs.declared.term.SetOp.{SetOp}
 use Rattle.og_value.specs.declared.term.SetOp.TheVariants as op
 use Rattle.og_query.specs.declared.query.Core.{Core}

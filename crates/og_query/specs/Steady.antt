@@ -1,5 +1,5 @@
 -- Which trees are the same on all days: each of their points is a fixed day.
-use Rattle.std.specs.Prelude.{◌&&◌, ℤ, Bool, true, List}
+use Rattle.std.specs.Prelude.{◌&&◌, Bool, true}
 use Rattle.std.specs.List.{list_all}
 use Rattle.std.specs.Ordering.{int_eq}
 use Rattle.og_time.specs.Point.{Point}

@@ -4,7 +4,6 @@ use Rattle.std.proofs.lemmas.List.{append-nil, length-map}
 use Rattle.og_query.specs.Queries.{Fixed, image, is_kept}
 use Rattle.og_query.specs.Tables.{rows_of, tables_in}
 use Rattle.og_query.specs.Walk.{next_places, row_from, zeros, left_of}
-use Rattle.og_query.specs.declared.query.Core.{Core}
 use Rattle.og_query.specs.declared.query.From1.{From1}
 use Rattle.og_query.proofs.CombinationLemmas.{length_of_each, walk_begins, rows_everywhere, walk_goes_on, walk_shrinks, walk_more}
 use Rattle.og_query.proofs.evaluator.images.Goals as goal

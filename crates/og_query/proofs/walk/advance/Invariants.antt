@@ -1,4 +1,4 @@
-use Rattle.std.proofs.Common.{◌≡◌, ◌≤◌, ◌++◌, ℕ, List, length, take, drop, None}
+use Rattle.std.proofs.Common.{◌≡◌, ◌≤◌, ◌++◌, length, take, drop, None}
 use Rattle.og_query.specs.Walk.{next_places, zeros}
 use Rattle.og_query.proofs.walk.advance.Given as goal
 
