@@ -1,0 +1,11 @@
+pub mod CoreFits
+pub mod ExpressionFits
+pub mod ExpressionRules
+pub mod HitLemmas
+pub mod NumberLemmas
+pub mod OkLemmas
+pub mod Parts
+pub mod SightFits
+pub mod StarLemmas
+pub mod StatementFits
+pub mod StepLemmas

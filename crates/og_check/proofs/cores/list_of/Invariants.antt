@@ -1,0 +1,7 @@
+use Rattle.std.proofs.Common.{◌≡◌, drop, ◌+◌}
+use Rattle.og_check.specs.Cores.{items_from}
+use Rattle.og_check.specs.Steps.{parted, with_fronts}
+use Rattle.og_check.proofs.cores.list_of.Given as goal
+
+abbrev pub invariant-each : goal.invariant-each
+invariant-each l = with_fronts l.exprs l.columns.items (items_from l.sight (l.i + 1) (drop l.i l.list)) ≡ parted (items_from l.sight 1 l.list)

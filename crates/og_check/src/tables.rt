@@ -1,0 +1,130 @@
+//! The checks of FROM, and of EXISTS and NOT EXISTS.
+ghost use Rattle.std.specs.Prelude.{◌≡◌, map};
+ghost use Rattle.std.specs.List.{list_any};
+ghost use Rattle.std.specs.Str.{bytes_eq};
+ghost use Rattle.og_check.specs.Cores as spec;
+ghost use Rattle.og_check.specs.Names.{schemas_in};
+ghost use Rattle.og_check.specs.Steps.{Gives, in_order};
+
+use crate::conditions::{conds_of, where_of};
+use crate::names::{Names, alias_of, known_columns};
+use crate::refusal::CheckRefusal;
+use crate::sight::{Item, Sight};
+use og_query::{Cond, From1, Semi};
+use og_syntax::{FromText, SemiText};
+use og_value::{Catalog, Name};
+use sqlite_items::Items;
+use std::alloc::Global;
+
+/// What FROM gives: its items, its tables, and the conditions of ON.
+#[derive(Drop)]
+pub struct Joined<'a> {
+    pub items: Items<Item<'a>>,
+    pub tables: Items<From1>,
+    pub conds: Items<Cond>,
+}
+
+/// What FROM gives.
+pub fn from_of<'a, C: Catalog>(
+    alloc: Global,
+    known: &'a C,
+    names: Names,
+    tables: &'a [FromText],
+) -> Result<Joined<'a>, CheckRefusal>
+    ensures { Gives result (spec.from_of (schemas_in names (C.known known.now)) spec.no_tables tables.now) }
+{
+    let mut from = Joined {
+        items: Items::new(alloc),
+        tables: Items::new(alloc),
+        conds: Items::new(alloc),
+    };
+    'each: for table in tables {
+        from = with_table(alloc, known, names, from, table)?;
+    }
+    Ok(from)
+}
+
+// With one more table.
+fn with_table<'a, C: Catalog>(
+    alloc: Global,
+    known: &'a C,
+    names: Names,
+    from: Joined<'a>,
+    table: &'a FromText,
+) -> Result<Joined<'a>, CheckRefusal>
+    ensures { Gives result (spec.with_table (schemas_in names (C.known known.now)) from.entry table.now) }
+{
+    let mut from = from;
+    let columns = known_columns(known, names, &table.name)?;
+    let alias = alias_of(&table.name, &table.alias);
+    unused(alias, from.items.as_slice())?;
+    from.items.push(Item::of(alias, columns))?;
+    let conds = conds_of(alloc, &Sight::of(from.items.as_slice()), &table.on)?;
+    from.tables.push(From1 {
+        name: table.name.copy()?,
+        schema: columns.copy()?,
+    })?;
+    from.conds.append(conds)?;
+    Ok(from)
+}
+
+// `NameTaken` exactly where one of the items has the alias.
+fn unused(alias: &Name, items: &[Item]) -> Result<(), CheckRefusal>
+    ensures { Gives result (spec.unused alias.now items.now) }
+{
+    if is_used(alias, items) {
+        return Err(CheckRefusal::NameTaken {
+            name: alias.copy()?,
+        });
+    }
+    Ok(())
+}
+
+// Whether one of the items has the alias.
+fn is_used(alias: &Name, items: &[Item]) -> bool
+    ensures { result ≡ list_any (λ item. bytes_eq item.0 alias.now) items.now }
+{
+    items.iter().any(|item| *item.alias() == *alias)
+}
+
+/// EXISTS and NOT EXISTS after the items.
+pub fn semis_of<C: Catalog>(
+    alloc: Global,
+    known: &C,
+    names: Names,
+    items: &[Item],
+    semis: &[SemiText],
+) -> Result<Items<Semi>, CheckRefusal>
+    ensures { Gives result (in_order (map (spec.semi_of (schemas_in names (C.known known.now)) items.now) semis.now)) }
+{
+    let mut typed = Items::new(alloc);
+    'each: for semi in semis {
+        typed.push(semi_of(alloc, known, names, items, semi)?)?;
+    }
+    Ok(typed)
+}
+
+// EXISTS or NOT EXISTS after the items.
+fn semi_of<C: Catalog>(
+    alloc: Global,
+    known: &C,
+    names: Names,
+    items: &[Item],
+    semi: &SemiText,
+) -> Result<Semi, CheckRefusal>
+    ensures { Gives result (spec.semi_of (schemas_in names (C.known known.now)) items.now semi.now) }
+{
+    let columns = known_columns(known, names, &semi.name)?;
+    let alias = alias_of(&semi.name, &semi.alias);
+    unused(alias, items)?;
+    let sub = [Item::of(alias, columns)];
+    let cond = where_of(alloc, &Sight::with_sub(items, &sub), &semi.cond)?;
+    Ok(Semi {
+        positive: semi.positive,
+        table: From1 {
+            name: semi.name.copy()?,
+            schema: columns.copy()?,
+        },
+        cond,
+    })
+}
