@@ -6,7 +6,7 @@ use Rattle.std.proofs.Math.Seq.{drop-cons}
 use Rattle.std.proofs.lemmas.List.{append-nil, append_assoc}
 use Rattle.std.proofs.lemmas.List.Folds.{list_all-map}
 use Rattle.std.proofs.lemmas.Bool.{lt-ltb, ltb-true, ltb-false}
-use Rattle.og_query.specs.Algebra.{combinations}
+use Rattle.og_query.specs.Combinations.{combinations}
 use Rattle.og_query.specs.Walk.{all_have_rows, zeros, stepped, next_places, row_from, left_from, left_of}
 
 -- what a function makes of a truth that is known

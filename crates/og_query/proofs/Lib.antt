@@ -1,8 +1,8 @@
-pub mod AlgebraLemmas
 pub mod CombinationLemmas
 pub mod Equations
 pub mod KindLemmas
 pub mod NamedLemmas
+pub mod ProductLemmas
 pub mod QueryLemmas
 pub mod TruthLemmas
 pub mod ValueLemmas

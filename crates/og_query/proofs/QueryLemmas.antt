@@ -11,14 +11,16 @@ use Rattle.og_value.specs.Order.{row_order}
 use Rattle.og_value.specs.contracts.row.FixedRowOrd.TheImpl.Laws as derived
 use Rattle.og_value.specs.declared.term.SetOp.{SetOp}
 use Rattle.og_value.specs.declared.term.SetOp.TheVariants as op
-use Rattle.og_query.specs.Algebra.{is_in, combinations}
+use Rattle.og_rel.specs.Algebra.{is_in}
+use Rattle.og_query.specs.Combinations.{combinations}
 use Rattle.og_query.specs.Queries.{Fixed, Named, image, is_kept, core_rows, combined, ordinary_query}
 use Rattle.og_query.specs.Sizes.{core_size, combined_size, query_size}
 use Rattle.og_query.specs.declared.query.Core.{Core}
 use Rattle.og_query.specs.declared.query.From1.{From1}
 use Rattle.og_query.specs.declared.query.Query.{Query}
 use Rattle.og_query.specs.declared.query.Rest.{Rest}
-use Rattle.og_query.proofs.AlgebraLemmas.{union_rises, except_rises, intersect_rises, length-set_of, length-filter_le, length-combinations, same_set_by_tests, either_order}
+use Rattle.og_rel.proofs.AlgebraLemmas.{union_rises, except_rises, intersect_rises, length-set_of, length-filter_le, same_set_by_tests}
+use Rattle.og_query.proofs.ProductLemmas.{length-combinations, either_order}
 
 -- the order that rows have is that of their definition, which tells them apart
 pub rows_ordered : IsExactOrder row_order

@@ -1,4 +1,4 @@
-pub mod Algebra
+pub mod Combinations
 pub mod Conditions
 pub mod Expressions
 pub mod Fits

@@ -6,7 +6,8 @@ use Rattle.og_value.specs.Order.{row_order}
 use Rattle.og_value.specs.declared.term.SetOp.{SetOp}
 use Rattle.og_value.specs.declared.term.SetOp.TheVariants as op
 use Rattle.og_value.specs.declared.value.FixedValue.{FixedValue}
-use Rattle.og_query.specs.Algebra.{union, except, intersect, combinations}
+use Rattle.og_rel.specs.Algebra.{union, except, intersect}
+use Rattle.og_query.specs.Combinations.{combinations}
 use Rattle.og_query.specs.Expressions.{meaning}
 use Rattle.og_query.specs.Conditions.{truth}
 use Rattle.og_query.specs.declared.expression.Expr.{Expr}

@@ -1,7 +1,7 @@
 -- The walk over all combinations of rows: places in the lists, the last one fastest.
 use Rattle.std.specs.Prelude.{ℕ, suc, Bool, List, [], ◌∷◌, ◌++◌, Option, Some, None, length, map, drop, slice_index_or, nat_lt, if◌then◌else◌}
 use Rattle.std.specs.List.{list_all}
-use Rattle.og_query.specs.Algebra.{combinations}
+use Rattle.og_query.specs.Combinations.{combinations}
 
 -- each of the lists has a row
 abbrev pub all_have_rows : {V : Type 0} → List (List (List V)) → Bool

@@ -2,7 +2,7 @@
 ghost use Rattle.std.specs.Prelude.{◌≡◌, IfOk, filter, not, if◌then◌else◌};
 ghost use Rattle.og_base.specs.Set.{set_of};
 ghost use Rattle.og_value.specs.Order.{row_order};
-ghost use Rattle.og_query.specs.Algebra.{is_in};
+ghost use Rattle.og_rel.specs.Algebra.{is_in};
 ghost use Rattle.og_query.specs.Queries as meant;
 
 use crate::values::append_row;

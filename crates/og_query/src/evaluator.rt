@@ -1,6 +1,6 @@
 //! The slow plain evaluator: what a query has on any day, over rows of that day.
 ghost use Rattle.std.specs.Prelude.{◌≡◌, ◌++◌, ◌∷◌, [], ℤ, IfOk, OnOk, true, length, map, filter};
-ghost use Rattle.og_query.specs.Algebra.{combinations};
+ghost use Rattle.og_query.specs.Combinations.{combinations};
 ghost use Rattle.og_query.specs.Queries as meant;
 ghost use Rattle.og_query.specs.Steady.{is_steady, is_steady_core};
 ghost use Rattle.og_query.specs.Tables.{rows_of, tables_in};

@@ -1,3 +1,4 @@
+pub mod AlgebraLemmas
 pub mod BlockLemmas
 pub mod PairLemmas
 pub mod PresentLemmas

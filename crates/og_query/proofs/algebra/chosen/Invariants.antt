@@ -1,6 +1,6 @@
 use Rattle.std.proofs.Common.{◌≡◌, filter, not, if◌then◌else◌, take}
 use Rattle.og_value.specs.Order.{row_order}
-use Rattle.og_query.specs.Algebra.{is_in}
+use Rattle.og_rel.specs.Algebra.{is_in}
 use Rattle.og_query.proofs.algebra.chosen.Given as goal
 
 abbrev pub invariant-left : goal.invariant-left

@@ -1,5 +1,5 @@
 use Rattle.std.proofs.Common.{◌≡◌, ◌++◌, ℤ, Some, None, true, length, map, filter, if◌then◌else◌}
-use Rattle.og_query.specs.Algebra.{combinations}
+use Rattle.og_query.specs.Combinations.{combinations}
 use Rattle.og_query.specs.Queries.{image, is_kept}
 use Rattle.og_query.specs.Tables.{rows_of, tables_in}
 use Rattle.og_query.specs.Walk.{all_have_rows, left_of}

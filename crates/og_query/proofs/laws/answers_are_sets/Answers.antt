@@ -1,7 +1,7 @@
 use Rattle.std.proofs.Common.{sym}
 use Rattle.og_base.proofs.SetLemmas.{set_of-rising}
 use Rattle.og_query.specs.Queries.{ordinary_query}
-use Rattle.og_query.proofs.AlgebraLemmas.{Contains-union, Contains-except, Contains-intersect}
+use Rattle.og_rel.proofs.AlgebraLemmas.{Contains-union, Contains-except, Contains-intersect}
 use Rattle.og_query.proofs.QueryLemmas.{rows_ordered, answer_rises}
 use Rattle.og_query.proofs.laws.answers_are_sets.Goals as goal
 

@@ -2,7 +2,7 @@ use Rattle.std.proofs.Common.{◌++◌, ◌&&◌, ◌∙◌, ap₂, sym}
 use Rattle.std.proofs.lemmas.List.Folds.{list_all-append}
 use Rattle.og_query.specs.Conditions.{truth}
 use Rattle.og_query.specs.declared.condition.Cond.TheVariants.{And}
-use Rattle.og_query.proofs.AlgebraLemmas.{filter-both}
+use Rattle.og_rel.proofs.AlgebraLemmas.{filter-both}
 use Rattle.og_query.proofs.Equations.{truth-And}
 use Rattle.og_query.proofs.laws.one_condition_after_the_other.Goals as goal
 

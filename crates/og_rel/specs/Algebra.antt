@@ -1,6 +1,6 @@
 -- The algebra of sets of rows on one day: rising lists, by an order of rows.
-use Rattle.std.specs.Prelude.{not, Bool, List, [], ◌∷◌, ◌++◌, map, filter}
-use Rattle.std.specs.List.{flat_map, list_any}
+use Rattle.std.specs.Prelude.{not, Bool, List, ◌++◌, filter}
+use Rattle.std.specs.List.{list_any}
 use Rattle.std.specs.Ordering.{eq_by_cmp}
 use Rattle.std.specs.declared.cmp.Ordering.{Ordering}
 use Rattle.og_base.specs.Set.{set_of}
@@ -20,8 +20,3 @@ except cmp xs ys = filter (λ x. not (is_in cmp x ys)) xs
 -- INTERSECT: the rows of the left that are in the right
 abbrev pub intersect : {F : Type 0} → (F → F → Ordering) → List F → List F → List F
 intersect cmp xs ys = filter (λ x. is_in cmp x ys) xs
-
--- all combinations of one row from each list, each joined to one row
-abbrev pub combinations : {V : Type 0} → List (List (List V)) → List (List V)
-combinations [] = [] ∷ []
-combinations (rows ∷ more) = flat_map (λ row. map (λ rest. row ++ rest) (combinations more)) rows

@@ -1,4 +1,4 @@
--- The algebra of sets: members, that each answer rises, sizes, and two tables in either order.
+-- The algebra of sets: members, that each answer rises, sizes, and tests of some member.
 use Rattle.std.proofs.Common.{◌≡◌, ◌⊎◌, ◌↔◌, ◌++◌, ◌+◌, ◌*◌, ◌≤◌, ◌&&◌, ◌||◌, ℕ, suc, Bool, true, false, not, List, [], ◌∷◌, length, map, filter, Contains, Ordering, if◌then◌else◌, refl, sym, ap, ap₂, ◌∙◌, ⊎_elim, true≢false, arith}
 use Rattle.std.specs.List.{flat_map, list_any}
 use Rattle.std.specs.List.Sorted.{IsStrictlySortedBy}
@@ -12,7 +12,7 @@ use Rattle.std.proofs.lemmas.Map.Views.{list_any-from_Contains, Contains-from_an
 use Rattle.og_base.specs.Set.{IsExactOrder, with_member, set_of}
 use Rattle.og_base.proofs.SetLemmas.{by_order-is, eq_by_cmp-exact, Contains-filter, Contains-from_filter, filter_passes-member, Contains-set_of, Contains-from_set_of, IsStrictlySortedBy-set_of, same_set}
 use Rattle.og_base.proofs.SetMembers.{list_any-map, list_any-filter}
-use Rattle.og_query.specs.Algebra.{is_in, union, except, intersect, combinations}
+use Rattle.og_rel.specs.Algebra.{is_in, union, except, intersect}
 
 -- what is not false is true
 not_not : (b : Bool) → (b ≡ true → ⊥) → not b ≡ true
@@ -101,29 +101,8 @@ length-filter_le p (x ∷ xs) = at (p x) (length-filter_le p xs)
     at true h = omega (arith, h)
     at false h = omega (arith, h)
 
--- n and m times n
-once_more : (m n : ℕ) → n + m * n ≡ suc m * n
-once_more m n = grind (arith)
-
-module _ {U : Type 0} where
-  -- one row with each of the rests, for each of the rows
-  abbrev joins : List (List U) → List (List U) → List (List U)
-  joins rests rows = flat_map (λ row. map (λ rest. row ++ rest) rests) rows
-
-  -- so many as the rows times the rests
-  length-joins : (rests rows : List (List U)) → length (joins rests rows) ≡ length rows * length rests
-  length-joins rests [] = grind (arith)
-  length-joins rests (row ∷ rows) =
-      length-append (map (λ rest. row ++ rest) rests) (joins rests rows)
-      ∙ ap₂ (λ m n. m + n) (length-map rests (λ rest. row ++ rest)) (length-joins rests rows)
-      ∙ once_more (length rows) (length rests)
-
-  -- a list of combinations is as long as the product of the lengths
-  pub length-combinations : (rows : List (List U)) (more : List (List (List U))) → length (combinations (rows ∷ more)) ≡ length rows * length (combinations more)
-  length-combinations rows more = length-joins (combinations more) rows
-
 -- or with a truth that is false
-or_false : (b : Bool) → (b || false) ≡ b
+pub or_false : (b : Bool) → (b || false) ≡ b
 or_false true = refl
 or_false false = refl
 
@@ -145,45 +124,14 @@ any_of_either p q [] = refl
 any_of_either p q (x ∷ xs) = ap (λ b. (p x || q x) || b) (any_of_either p q xs) ∙ or_across (p x) (q x) (list_any p xs) (list_any q xs)
 
 -- of some member of the one list with some member of the other, in either order
-any_across : {A B : Type 0} (p : A → B → Bool) (xs : List A) (ys : List B) → list_any (λ x. list_any (p x) ys) xs ≡ list_any (λ y. list_any (λ x. p x y) xs) ys
+pub any_across : {A B : Type 0} (p : A → B → Bool) (xs : List A) (ys : List B) → list_any (λ x. list_any (p x) ys) xs ≡ list_any (λ y. list_any (λ x. p x y) xs) ys
 any_across p [] ys = sym (any_of_none ys)
 any_across p (x ∷ xs) ys = ap (λ b. list_any (p x) ys || b) (any_across p xs ys) ∙ sym (any_of_either (p x) (λ y. list_any (λ z. p z y) xs) ys)
 
 -- of some member of the lists of the members
-list_any-flat_map : {A B : Type 0} (p : B → Bool) (h : A → List B) (xs : List A) → list_any p (flat_map h xs) ≡ list_any (λ x. list_any p (h x)) xs
+pub list_any-flat_map : {A B : Type 0} (p : B → Bool) (h : A → List B) (xs : List A) → list_any p (flat_map h xs) ≡ list_any (λ x. list_any p (h x)) xs
 list_any-flat_map p h [] = refl
 list_any-flat_map p h (x ∷ xs) = list_any-append p (h x) (flat_map h xs) ∙ ap (λ b. list_any p (h x) || b) (list_any-flat_map p h xs)
-
-module _ {U : Type 0} where
-  -- of some combination: of some row with some combination of the rest
-  pub list_any-combinations : (p : List U → Bool) (rows : List (List U)) (more : List (List (List U)))
-      → list_any p (combinations (rows ∷ more)) ≡ list_any (λ row. list_any (λ rest. p (row ++ rest)) (combinations more)) rows
-  list_any-combinations p rows more =
-      list_any-flat_map p (λ row. map (λ rest. row ++ rest) (combinations more)) rows
-      ∙ (λ i. list_any (λ row. list_any-map p (λ rest. row ++ rest) (combinations more) i) rows)
-
-  -- of some combination of two lists: of some row with some other
-  pub list_any-of_two : (p : List U → Bool) (xs ys : List (List U)) → list_any p (combinations (xs ∷ ys ∷ [])) ≡ list_any (λ x. list_any (λ y. p (x ++ y)) ys) xs
-  list_any-of_two p xs ys =
-      list_any-combinations p xs (ys ∷ [])
-      ∙ (λ i. list_any (λ x. list_any-combinations (λ rest. p (x ++ rest)) ys [] i) xs)
-      ∙ (λ i. list_any (λ x. list_any (λ y. (or_false (p (x ++ (y ++ []))) ∙ ap (λ z. p (x ++ z)) (append-nil y)) i) ys) xs)
-
--- what passes of the one list is mapped to what passes of the other, where their rows are joined the other way round
-pub either_order : {U W : Type 0} (p : W → Bool) (k l : List U → Bool) (f g : List U → W) (xs ys : List (List U))
-    → ((x y : List U) → k (x ++ y) ≡ l (y ++ x)) → ((x y : List U) → f (x ++ y) ≡ g (y ++ x))
-    → list_any p (map f (filter k (combinations (xs ∷ ys ∷ [])))) ≡ list_any p (map g (filter l (combinations (ys ∷ xs ∷ []))))
-either_order {U = U} {W = W} p k l f g xs ys kept mapped =
-    tested k f (xs ∷ ys ∷ [])
-    ∙ list_any-of_two (λ r. k r && p (f r)) xs ys
-    ∙ (λ i. list_any (λ x. list_any (λ y. kept x y i && p (mapped x y i)) ys) xs)
-    ∙ any_across (λ x y. l (y ++ x) && p (g (y ++ x))) xs ys
-    ∙ sym (list_any-of_two (λ r. l r && p (g r)) ys xs)
-    ∙ sym (tested l g (ys ∷ xs ∷ []))
-  where
-    tested : (k : List U → Bool) (f : List U → W) (lists : List (List (List U)))
-        → list_any p (map f (filter k (combinations lists))) ≡ list_any (λ r. k r && p (f r)) (combinations lists)
-    tested k f lists = list_any-map p f (filter k (combinations lists)) ∙ list_any-filter (λ r. p (f r)) k (combinations lists)
 
 -- what passes the one and then the other is what passes both
 pub filter-both : {A : Type 0} (p q r : A → Bool) → ((x : A) → p x ≡ (q x && r x)) → (xs : List A) → filter p xs ≡ filter r (filter q xs)
