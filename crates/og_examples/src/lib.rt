@@ -1,5 +1,5 @@
-//! Whole runs, from the words and the bytes in to the bytes and the status out; what is read of whole
-//! scripts; relations of rows of values; and the traits of rows and catalogs at small types.
+//! Whole runs, from the words and the bytes in to the bytes and the status out; relations of rows of
+//! values; and the traits of rows and catalogs at small types.
 #![tactic(auto)]
 
 #[cfg(test)]
@@ -20,5 +20,3 @@ mod relations;
 pub mod rows;
 #[cfg(test)]
 mod runs;
-#[cfg(test)]
-mod scripts;

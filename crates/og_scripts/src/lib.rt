@@ -1,0 +1,15 @@
+//! Scripts by their texts: what is read of them, printed again, checked, and what their queries have on
+//! one day; and a list of names as a catalog.
+#![tactic(auto)]
+
+#[cfg(test)]
+mod checks;
+#[cfg(test)]
+mod evaluations;
+pub mod names;
+#[cfg(test)]
+mod reprints;
+#[cfg(test)]
+mod scripts;
+#[cfg(test)]
+mod statements;
