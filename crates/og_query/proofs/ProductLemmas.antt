@@ -1,16 +1,7 @@
 -- Combinations of rows: how many there are, tests of some of them, and two tables in either order.
-use Rattle.std.proofs.Common.{◌≡◌, ◌⊎◌, ◌↔◌, ◌++◌, ◌+◌, ◌*◌, ◌≤◌, ◌&&◌, ◌||◌, ℕ, suc, Bool, true, false, not, List, [], ◌∷◌, length, map, filter, Contains, Ordering, if◌then◌else◌, refl, sym, ap, ap₂, ◌∙◌, ⊎_elim, true≢false, arith}
+use Rattle.std.proofs.Common.{◌≡◌, ◌++◌, ◌+◌, ◌*◌, ◌&&◌, ℕ, suc, Bool, List, [], ◌∷◌, length, map, filter, sym, ap, ap₂, ◌∙◌, arith}
 use Rattle.std.specs.List.{flat_map, list_any}
-use Rattle.std.specs.List.Sorted.{IsStrictlySortedBy}
-use Rattle.std.specs.Ordering.{eq_by_cmp}
-use Rattle.std.proofs.lemmas.Cmp.{eq_by_cmp_equiv}
 use Rattle.std.proofs.lemmas.List.{append-nil, length-append, length-map}
-use Rattle.std.proofs.lemmas.List.Elements.{Contains-append_left, Contains-append_right, Contains-append_cases}
-use Rattle.std.proofs.lemmas.List.Folds.{list_any-append}
-use Rattle.std.proofs.lemmas.List.Kept.{IsStrictlySortedBy-filter}
-use Rattle.std.proofs.lemmas.Map.Views.{list_any-from_Contains, Contains-from_any}
-use Rattle.og_base.specs.Set.{IsExactOrder, with_member, set_of}
-use Rattle.og_base.proofs.SetLemmas.{by_order-is, eq_by_cmp-exact, Contains-filter, Contains-from_filter, filter_passes-member, Contains-set_of, Contains-from_set_of, IsStrictlySortedBy-set_of, same_set}
 use Rattle.og_base.proofs.SetMembers.{list_any-map, list_any-filter}
 use Rattle.og_rel.proofs.AlgebraLemmas.{or_false, any_across, list_any-flat_map}
 use Rattle.og_query.specs.Combinations.{combinations}
@@ -66,4 +57,3 @@ either_order {U = U} {W = W} p k l f g xs ys kept mapped =
     tested : (k : List U → Bool) (f : List U → W) (lists : List (List (List U)))
         → list_any p (map f (filter k (combinations lists))) ≡ list_any (λ r. k r && p (f r)) (combinations lists)
     tested k f lists = list_any-map p f (filter k (combinations lists)) ∙ list_any-filter (λ r. p (f r)) k (combinations lists)
-

@@ -1,17 +1,15 @@
 -- The algebra of sets: members, that each answer rises, sizes, and tests of some member.
-use Rattle.std.proofs.Common.{◌≡◌, ◌⊎◌, ◌↔◌, ◌++◌, ◌+◌, ◌*◌, ◌≤◌, ◌&&◌, ◌||◌, ℕ, suc, Bool, true, false, not, List, [], ◌∷◌, length, map, filter, Contains, Ordering, if◌then◌else◌, refl, sym, ap, ap₂, ◌∙◌, ⊎_elim, true≢false, arith}
+use Rattle.std.proofs.Common.{◌≡◌, ◌⊎◌, ◌↔◌, ◌++◌, ◌≤◌, ◌&&◌, ◌||◌, suc, Bool, true, false, not, List, [], ◌∷◌, length, filter, Contains, Ordering, if◌then◌else◌, refl, sym, ap, ◌∙◌, ⊎_elim, true≢false, arith}
 use Rattle.std.specs.List.{flat_map, list_any}
 use Rattle.std.specs.List.Sorted.{IsStrictlySortedBy}
 use Rattle.std.specs.Ordering.{eq_by_cmp}
 use Rattle.std.proofs.lemmas.Cmp.{eq_by_cmp_equiv}
-use Rattle.std.proofs.lemmas.List.{append-nil, length-append, length-map}
 use Rattle.std.proofs.lemmas.List.Elements.{Contains-append_left, Contains-append_right, Contains-append_cases}
 use Rattle.std.proofs.lemmas.List.Folds.{list_any-append}
 use Rattle.std.proofs.lemmas.List.Kept.{IsStrictlySortedBy-filter}
 use Rattle.std.proofs.lemmas.Map.Views.{list_any-from_Contains, Contains-from_any}
 use Rattle.og_base.specs.Set.{IsExactOrder, with_member, set_of}
 use Rattle.og_base.proofs.SetLemmas.{by_order-is, eq_by_cmp-exact, Contains-filter, Contains-from_filter, filter_passes-member, Contains-set_of, Contains-from_set_of, IsStrictlySortedBy-set_of, same_set}
-use Rattle.og_base.proofs.SetMembers.{list_any-map, list_any-filter}
 use Rattle.og_rel.specs.Algebra.{is_in, union, except, intersect}
 
 -- what is not false is true
