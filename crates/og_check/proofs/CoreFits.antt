@@ -82,6 +82,7 @@ IsAdded schemas from t after =
     (columns : List Column) × (conds : List Cond) × (schemas t.name ≡ Some columns) × (conds_of (sees (from.items ++ (alias_of t.name t.alias, columns) ∷ [])) t.on ≡ Ok conds)
     × (joined_to from t columns conds ≡ after)
 
+-- a table that was added is known, and its conditions were checked
 added : (schemas : Schemas) (from : Joined) (t : FromText) (after : Joined) → with_table schemas from t ≡ Ok after → IsAdded schemas from t after
 added schemas from t after g =
     let alias = alias_of t.name t.alias in
@@ -120,11 +121,12 @@ joined_fits schemas from t columns conds named g h = record {
         let kinds = kinds_of (joined (from.items ++ (alias_of t.name t.alias, columns) ∷ [])) ++ back in
         list_all-append (fits kinds) from.conds conds ∙ (λ i. earlier back i && later back i)
 
--- FROM with one more table fits, and has a table
+-- FROM with one more table fits
 with_table_fits : (schemas : Schemas) (from : Joined) (t : FromText) (after : Joined) → with_table schemas from t ≡ Ok after → IsFitFrom schemas from → IsFitFrom schemas after
 with_table_fits schemas from t after g h =
     let a = added schemas from t after g in subst (IsFitFrom schemas) a.4 (joined_fits schemas from t a.0 a.1 a.2 a.3 h)
 
+-- FROM with one more table has a table
 some_table : (schemas : Schemas) (from : Joined) (t : FromText) (after : Joined) → with_table schemas from t ≡ Ok after → 1 ≤ length after.tables
 some_table schemas from t after g =
     let a = added schemas from t after g in

@@ -12,10 +12,11 @@ use Rattle.og_check.specs.Cores.{Shown, star_from, item_of, items_from}
 use Rattle.og_check.proofs.Parts.{left}
 use Rattle.og_check.proofs.StepLemmas.{fronts-more, fronts-done}
 
--- the place and the kind of what is shown
+-- the expressions of what is shown
 abbrev exprs : List Shown → List Expr
 exprs xs = map (λ x. x.0) xs
 
+-- the columns of what is shown
 abbrev columns : List Shown → List Column
 columns xs = map (λ x. x.1) xs
 

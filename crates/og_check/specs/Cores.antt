@@ -79,11 +79,12 @@ semi_of schemas items s = do
   cond ← where_of (sees_sub items (alias_of s.name s.alias, columns)) s.cond
   pure (record { positive = s.positive; table = record { name = s.name; schema = columns }; cond = cond })
 
--- the name of the n-th item's column: the one after AS, the column's own, or c and the number
+-- the name of the n-th item's column where none stands after AS: the column's own, or c and the number
 abbrev pub own_name : ℕ → text.ExprText-F ExprText → List ℕ
 own_name n (text.Column table name) = name
 own_name n _ = codes "c" ++ decimal n
 
+-- the name of the n-th item's column: the one after AS, or its own
 abbrev pub item_name : ℕ → ItemText → List ℕ
 item_name n item = alias_of (own_name n (out-ExprText item.expr)) item.name
 

@@ -9,7 +9,7 @@ ghost use Rattle.og_check.specs.Steps.{Gives, pure};
 use crate::hits::{Hits, one_more, or_hits};
 use crate::refusal::CheckRefusal;
 use crate::sight::{Item, Sight};
-use og_value::{Column, Kind, Name, Schema, Text};
+use og_value::{Column, Kind, Name, Schema, Text, TextRefusal};
 use std::alloc::Global;
 
 /// The place of the column in the row, and its kind. `NoSuchColumn` and `AmbiguousColumn` exactly
@@ -57,7 +57,8 @@ fn text_of(alloc: Global, string: &str) -> Result<Text, CheckRefusal>
 {
     match Text::of(alloc, string.as_bytes()) {
         Ok(text) => Ok(text),
-        Err(_) => Err(CheckRefusal::NoMemory),
+        Err(TextRefusal::NoMemory) => Err(CheckRefusal::NoMemory),
+        Err(TextRefusal::NotText) => unreachable!(),
     }
 }
 

@@ -17,7 +17,7 @@ use crate::sight::{Item, Sight};
 use crate::tables::{from_of, semis_of};
 use og_query::{Cond, Core, Expr};
 use og_syntax::{CoreText, ExprText, ItemText, ItemsText};
-use og_value::{Catalog, Column, Name, Schema};
+use og_value::{Catalog, Column, Name, NameRefusal, Schema};
 use sqlite_items::Items;
 use std::alloc::Global;
 
@@ -165,6 +165,7 @@ fn numbered(alloc: Global, number: usize) -> Result<Name, CheckRefusal>
     let word = format!(in alloc; "c{number}")?;
     match Name::of(alloc, word.as_bytes()) {
         Ok(name) => Ok(name),
-        Err(_) => Err(CheckRefusal::NoMemory),
+        Err(NameRefusal::NoMemory) => Err(CheckRefusal::NoMemory),
+        Err(NameRefusal::NotAName) => unreachable!(),
     }
 }
