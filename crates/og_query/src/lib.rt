@@ -25,4 +25,5 @@ pub use laws::{
     tables_in_either_order,
 };
 pub use query::{Core, From1, Query, Rest, Semi};
+pub use truths::allows;
 pub use typed::{Assign, Typed};

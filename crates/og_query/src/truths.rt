@@ -13,8 +13,8 @@ use sqlite_items::Items;
 use std::alloc::Global;
 use std::cmp::Ordering;
 
-// Whether the comparison holds of two values that stand so.
-fn allows(op: Cmp, order: Ordering) -> bool
+/// Whether the comparison holds of two values that stand so.
+pub fn allows(op: Cmp, order: Ordering) -> bool
     ensures { result ≡ meant.allows op order }
 {
     match op {
