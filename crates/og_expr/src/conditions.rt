@@ -1,0 +1,81 @@
+//! Conditions, as the days on which they hold of a row.
+ghost use Rattle.std.specs.Prelude.{◌≡◌, ℤ, IfOk};
+ghost use Rattle.std.specs.List.{list_all, list_any};
+ghost use Rattle.og_base.specs.Calendar.{IsRefDay};
+ghost use Rattle.og_base.specs.Ranges.{holds_day};
+ghost use Rattle.og_value.specs.Values.{row_at};
+ghost use Rattle.og_query.specs.Conditions.{truth};
+
+use crate::comparisons::{compare_days, contain_days, empty_days, relate_days};
+use crate::values::value;
+use og_base::{DayCond, NoMemory, RtSet};
+use og_query::Cond;
+use og_value::Row;
+use sqlite_items::Items;
+use std::alloc::Global;
+
+/// A condition, as the days on which it holds of a row.
+#[derive(Drop)]
+pub struct CondDays<'a> {
+    pub cond: &'a Cond,
+}
+
+impl DayCond<Row> for CondDays<'_> {
+    ghost holds = { λ c d row. truth d row c.cond.now };
+
+    fn days(&self, alloc: Global, row: &Row) -> Result<RtSet, NoMemory> {
+        days(alloc, self.cond, row)
+    }
+}
+
+// The days on which the condition holds of the row.
+#[cycle(conditions)]
+fn days(alloc: Global, cond: &Cond, row: &Row) -> Result<RtSet, NoMemory>
+    ensures { IfOk result (λ s. (d : ℤ) → IsRefDay d → holds_day s d ≡ truth d (row_at row.now d) cond.now) }
+{
+    match cond {
+        Cond::And(parts) => all_days(alloc, parts, row),
+        Cond::Or(parts) => any_days(alloc, parts, row),
+        Cond::Not(part) => days(alloc, part.get(), row)?.complement(),
+        Cond::Compare { op, left, right } => {
+            let left = value(alloc, left, row)?;
+            let right = value(alloc, right, row)?;
+            compare_days(alloc, *op, &left, &right)
+        }
+        Cond::Relate { pred, left, right } => {
+            let left = value(alloc, left, row)?;
+            let right = value(alloc, right, row)?;
+            relate_days(alloc, *pred, &left, &right)
+        }
+        Cond::Empty(period) => empty_days(alloc, &value(alloc, period, row)?),
+        Cond::Contains(period, day) => {
+            let period = value(alloc, period, row)?;
+            let day = value(alloc, day, row)?;
+            contain_days(alloc, &period, &day)
+        }
+    }
+}
+
+// The days on which all of the conditions hold of the row.
+#[cycle(conditions)]
+fn all_days(alloc: Global, parts: &Items<Cond>, row: &Row) -> Result<RtSet, NoMemory>
+    ensures { IfOk result (λ s. (d : ℤ) → IsRefDay d → holds_day s d ≡ list_all (truth d (row_at row.now d)) parts.now) }
+{
+    let mut held = RtSet::all(alloc)?;
+    'parts: for part in parts.as_slice() {
+        held = held.meet(&days(alloc, part, row)?)?;
+    }
+    Ok(held)
+}
+
+// The days on which one of the conditions holds of the row.
+#[cycle(conditions)]
+fn any_days(alloc: Global, parts: &Items<Cond>, row: &Row) -> Result<RtSet, NoMemory>
+    ensures { IfOk result (λ s. (d : ℤ) → IsRefDay d → holds_day s d ≡ list_any (truth d (row_at row.now d)) parts.now) }
+{
+    let mut held = RtSet::empty(alloc);
+    'parts: for part in parts.as_slice() {
+        held = held.union(&days(alloc, part, row)?)?;
+    }
+    Ok(held)
+}

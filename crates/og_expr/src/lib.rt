@@ -1,0 +1,10 @@
+//! Conditions and items of queries, on rows that depend on the day.
+#![tactic(auto)]
+
+mod comparisons;
+mod conditions;
+mod items;
+mod values;
+
+pub use conditions::CondDays;
+pub use items::ItemMap;

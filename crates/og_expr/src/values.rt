@@ -1,0 +1,97 @@
+//! Values of expressions on a row that depends on the day.
+ghost use Rattle.std.specs.Prelude.{◌≡◌, ◌∷◌, [], ℤ, IfOk, map, slice_index_or};
+ghost use Rattle.og_base.specs.Calendar.{IsRefDay};
+ghost use Rattle.og_time.specs.Period.{period_at};
+ghost use Rattle.og_time.specs.Point.{point_at};
+ghost use Rattle.og_value.specs.Values.{value_at, row_at};
+ghost use Rattle.og_value.specs.declared.value.FixedValue.TheVariants as fixed;
+ghost use Rattle.og_query.specs.Expressions.{no_value, call_of, meaning};
+
+use og_base::NoMemory;
+use og_query::Expr;
+use og_time::{OngoingPeriod, OngoingPoint};
+use og_value::{Func, Row, Value};
+use std::alloc::Global;
+
+// The function of two points, and the number 0 where it takes none.
+fn of_points(func: Func, p: OngoingPoint, q: OngoingPoint) -> Value
+    ensures { (d : ℤ) → IsRefDay d → value_at result d ≡ call_of func (fixed.Date (point_at p d) ∷ fixed.Date (point_at q d) ∷ []) }
+{
+    match func {
+        Func::Least => Value::Point(p.least(q)),
+        Func::Greatest => Value::Point(p.greatest(q)),
+        Func::Period => Value::Period(OngoingPeriod::new(p, q)),
+        _ => Value::Int(0),
+    }
+}
+
+// The function of one period, and the number 0 where it takes none.
+fn of_period(func: Func, i: OngoingPeriod) -> Value
+    ensures { (d : ℤ) → IsRefDay d → value_at result d ≡ call_of func (fixed.Period (period_at i d) ∷ []) }
+{
+    match func {
+        Func::Start => Value::Point(i.start()),
+        Func::End => Value::Point(i.end()),
+        _ => Value::Int(0),
+    }
+}
+
+// The function of two periods, and the number 0 where it takes none.
+fn of_periods(func: Func, i: OngoingPeriod, j: OngoingPeriod) -> Value
+    ensures { (d : ℤ) → IsRefDay d → value_at result d ≡ call_of func (fixed.Period (period_at i d) ∷ fixed.Period (period_at j d) ∷ []) }
+{
+    match func {
+        Func::Common => Value::Period(i.common(j)),
+        _ => Value::Int(0),
+    }
+}
+
+// The function of the values, and the number 0 where it does not take values of these kinds.
+fn call(func: Func, values: &[Value]) -> Value
+    ensures { (d : ℤ) → IsRefDay d → value_at result d ≡ call_of func (row_at values.now d) }
+{
+    match values {
+        [Value::Point(p), Value::Point(q)] => of_points(func, *p, *q),
+        [Value::Period(i)] => of_period(func, *i),
+        [Value::Period(i), Value::Period(j)] => of_periods(func, *i, *j),
+        _ => Value::Int(0),
+    }
+}
+
+// The value at the place of the row, and the number 0 where the row has no such place.
+fn column(row: &Row, place: usize) -> Result<Value, NoMemory>
+    ensures { IfOk result (λ v. (d : ℤ) → value_at v d ≡ slice_index_or (row_at row.now d) place no_value) }
+{
+    if place < row.len() {
+        row.value(place).copy()
+    } else {
+        Ok(Value::Int(0))
+    }
+}
+
+// The value of the expression on the row.
+#[cycle(values)]
+pub(crate) fn value(alloc: Global, expr: &Expr, row: &Row) -> Result<Value, NoMemory>
+    ensures { IfOk result (λ v. (d : ℤ) → IsRefDay d → value_at v d ≡ meaning d (row_at row.now d) expr.now) }
+{
+    match expr {
+        Expr::Column(place) => column(row, *place),
+        Expr::Lit(value) => value.copy(),
+        Expr::Call { func, args } => {
+            let values = values_of(alloc, args.as_slice(), row)?;
+            Ok(call(*func, values.as_slice()))
+        }
+    }
+}
+
+// The values of the expressions on the row.
+#[cycle(values)]
+pub(crate) fn values_of(alloc: Global, exprs: &[Expr], row: &Row) -> Result<Vec<Value>, NoMemory>
+    ensures { IfOk result (λ vs. (d : ℤ) → IsRefDay d → row_at vs.items d ≡ map (meaning d (row_at row.now d)) exprs.now) }
+{
+    let mut values = Vec::new(alloc);
+    'all: for expr in exprs {
+        values.push(value(alloc, expr, row)?)?;
+    }
+    Ok(values)
+}
