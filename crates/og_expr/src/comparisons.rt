@@ -14,13 +14,6 @@ use og_time::{OngoingBool, OngoingPeriod, OngoingPoint};
 use og_value::{Cmp, Pred, Value};
 use std::alloc::Global;
 
-// All days, or none.
-fn all_or_none(alloc: Global, all: bool) -> Result<RtSet, NoMemory>
-    ensures { IfOk result (λ s. (d : ℤ) → IsRefDay d → holds_day s d ≡ all) }
-{
-    Ok(OngoingBool::constant(alloc, all)?.into_days())
-}
-
 // The days on which two points compare so.
 #[tactic(auto, using(crate::proofs::PointComparisons::point_comparisons))]
 fn point_days(alloc: Global, op: Cmp, p: OngoingPoint, q: OngoingPoint) -> Result<RtSet, NoMemory>
@@ -45,12 +38,13 @@ pub(crate) fn compare_days(
 ) -> Result<RtSet, NoMemory>
     ensures { IfOk result (λ s. (d : ℤ) → IsRefDay d → holds_day s d ≡ meant.compares op (value_at left.now d) (value_at right.now d)) }
 {
-    match (left, right) {
-        (Value::Int(m), Value::Int(n)) => all_or_none(alloc, allows(op, m.cmp(n))),
-        (Value::Text(s), Value::Text(t)) => all_or_none(alloc, allows(op, s.cmp(t))),
-        (Value::Point(p), Value::Point(q)) => point_days(alloc, op, *p, *q),
-        _ => Ok(RtSet::empty(alloc)),
-    }
+    let every_day = match (left, right) {
+        (Value::Int(m), Value::Int(n)) => allows(op, m.cmp(n)),
+        (Value::Text(s), Value::Text(t)) => allows(op, s.cmp(t)),
+        (Value::Point(p), Value::Point(q)) => return point_days(alloc, op, *p, *q),
+        _ => false,
+    };
+    Ok(OngoingBool::constant(alloc, every_day)?.into_days())
 }
 
 // The days on which the predicate holds of two periods.

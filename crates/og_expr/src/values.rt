@@ -1,59 +1,35 @@
 //! Values of expressions on a row that depends on the day.
-ghost use Rattle.std.specs.Prelude.{◌≡◌, ◌∷◌, [], ℤ, IfOk, map, slice_index_or};
+ghost use Rattle.std.specs.Prelude.{◌≡◌, ℤ, IfOk, map, slice_index_or};
 ghost use Rattle.og_base.specs.Calendar.{IsRefDay};
-ghost use Rattle.og_time.specs.Period.{period_at};
-ghost use Rattle.og_time.specs.Point.{point_at};
 ghost use Rattle.og_value.specs.Values.{value_at, row_at};
-ghost use Rattle.og_value.specs.declared.value.FixedValue.TheVariants as fixed;
 ghost use Rattle.og_query.specs.Expressions.{no_value, call_of, meaning};
 
 use og_base::NoMemory;
 use og_query::Expr;
-use og_time::{OngoingPeriod, OngoingPoint};
+use og_time::OngoingPeriod;
 use og_value::{Func, Row, Value};
 use std::alloc::Global;
-
-// The function of two points, and the number 0 where it takes none.
-fn of_points(func: Func, p: OngoingPoint, q: OngoingPoint) -> Value
-    ensures { (d : ℤ) → IsRefDay d → value_at result d ≡ call_of func (fixed.Date (point_at p d) ∷ fixed.Date (point_at q d) ∷ []) }
-{
-    match func {
-        Func::Least => Value::Point(p.least(q)),
-        Func::Greatest => Value::Point(p.greatest(q)),
-        Func::Period => Value::Period(OngoingPeriod::new(p, q)),
-        _ => Value::Int(0),
-    }
-}
-
-// The function of one period, and the number 0 where it takes none.
-fn of_period(func: Func, i: OngoingPeriod) -> Value
-    ensures { (d : ℤ) → IsRefDay d → value_at result d ≡ call_of func (fixed.Period (period_at i d) ∷ []) }
-{
-    match func {
-        Func::Start => Value::Point(i.start()),
-        Func::End => Value::Point(i.end()),
-        _ => Value::Int(0),
-    }
-}
-
-// The function of two periods, and the number 0 where it takes none.
-fn of_periods(func: Func, i: OngoingPeriod, j: OngoingPeriod) -> Value
-    ensures { (d : ℤ) → IsRefDay d → value_at result d ≡ call_of func (fixed.Period (period_at i d) ∷ fixed.Period (period_at j d) ∷ []) }
-{
-    match func {
-        Func::Common => Value::Period(i.common(j)),
-        _ => Value::Int(0),
-    }
-}
 
 // The function of the values, and the number 0 where it does not take values of these kinds.
 fn call(func: Func, values: &[Value]) -> Value
     ensures { (d : ℤ) → IsRefDay d → value_at result d ≡ call_of func (row_at values.now d) }
 {
     match values {
-        [Value::Point(p), Value::Point(q)] => of_points(func, *p, *q),
-        [Value::Period(i)] => of_period(func, *i),
-        [Value::Period(i), Value::Period(j)] => of_periods(func, *i, *j),
+        [Value::Point(p), Value::Point(q)] => match func {
+            Func::Least => Value::Point(p.least(*q)),
+            Func::Greatest => Value::Point(p.greatest(*q)),
+            Func::Period => Value::Period(OngoingPeriod::new(*p, *q)),
+            _ => Value::Int(0),
+        },
+        [Value::Period(i)] => match func {
+            Func::Start => Value::Point(i.start()),
+            Func::End => Value::Point(i.end()),
+            _ => Value::Int(0),
+        },
+        [Value::Period(i), Value::Period(j)] => match func {
+            Func::Common => Value::Period(i.common(*j)),
+            _ => Value::Int(0),
+        },
         _ => Value::Int(0),
     }
 }
