@@ -4,6 +4,8 @@
 mod comparisons;
 mod conditions;
 mod items;
+#[cfg(test)]
+mod tests;
 mod values;
 
 pub use conditions::CondDays;
