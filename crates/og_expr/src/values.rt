@@ -65,7 +65,7 @@ pub(crate) fn value(alloc: Global, expr: &Expr, row: &Row) -> Result<Value, NoMe
 pub(crate) fn values_of(alloc: Global, exprs: &[Expr], row: &Row) -> Result<Vec<Value>, NoMemory>
     ensures { IfOk result (λ vs. (d : ℤ) → IsRefDay d → row_at vs.items d ≡ map (meaning d (row_at row.now d)) exprs.now) }
 {
-    let mut values = Vec::new(alloc);
+    let mut values = Vec::with_capacity(alloc, exprs.len())?;
     'all: for expr in exprs {
         values.push(value(alloc, expr, row)?)?;
     }
