@@ -1,0 +1,120 @@
+-- The rows of a day that an operator makes of those of a relation: of one row, and of all.
+use Rattle.std.proofs.Common.{◌≡◌, ◌++◌, ◌+◌, ◌*◌, ◌<◌, ◌≤◌, ◌&&◌, ◌||◌, ℕ, ℤ, Bool, true, false, not, List, [], ◌∷◌, length, get_or, map, filter, take, if◌then◌else◌, Ordering, refl, sym, ap, ap₂, ◌∙◌, arith}
+use Rattle.std.specs.List.{list_any}
+use Rattle.std.proofs.lemmas.Grind.{flat_map-append}
+use Rattle.std.proofs.lemmas.List.{append-nil, length-append, map-append, take_all}
+use Rattle.std.proofs.lemmas.List.Folds.{list_any-append}
+use Rattle.og_base.specs.Ranges.{Range, holds_day}
+use Rattle.og_base.specs.Set.{IsExact, IsExactOrder, set_of}
+use Rattle.og_base.proofs.SetMembers.{list_any-map, list_any-set_of}
+use Rattle.og_rel.specs.Relations.{present, relation_at, stored}
+use Rattle.og_rel.proofs.PresentLemmas.{at_place, present-more, present-push}
+use Rattle.og_rel.proofs.AlgebraLemmas.{same_set_by_tests}
+use Rattle.og_ops.specs.Plain.{replaced, products}
+
+-- at most one row is stored with its days
+pub length-stored : {R : Type 0} (row : R) (days : List Range) → length (stored row days) ≤ 1
+length-stored row [] = omega arith
+length-stored row (r ∷ rs) = omega arith
+
+module _ {R F : Type 0} (at : R → ℤ → F) where
+  -- the rows of a day with a row that is pushed
+  pub pushed_rows : (old new : List (R × List Range)) (row : R) (days : List Range) (d : ℤ) (rows : List F)
+      → new ≡ old ++ stored row days → (if holds_day days d then at row d ∷ [] else []) ≡ rows → present at new d ≡ present at old d ++ rows
+  pushed_rows old new row days d rows e is = ap (λ rel. present at rel d) e ∙ present-push at old row days d ∙ ap (λ more. present at old d ++ more) is
+
+  -- what is made of the rows of as many places as there are is made of all rows
+  pub made_all : (f : List F → List F) (rel new : List (R × List Range)) (n : ℕ) (d : ℤ) → length rel ≤ n → present at new d ≡ f (present at (take n rel) d) → present at new d ≡ f (present at rel d)
+  made_all f rel new n d l e = e ∙ ap (λ all. f (present at all d)) (take_all n rel l)
+
+  -- a test of the rows of a day of one more place
+  pub found_more : (t : F → Bool) (rel : List (R × List Range)) (i : ℕ) (row : R) (days : List Range) (d : ℤ) → i < length rel
+      → ((p : R × List Range) → row ≡ (get_or rel i p).0) → ((p : R × List Range) → days ≡ (get_or rel i p).1)
+      → (list_any t (present at (take i rel) d) || list_any t (present at ((row, days) ∷ []) d)) ≡ list_any t (present at (take (i + 1) rel) d)
+  found_more t rel i row days d l row_is days_is =
+      let p : R × List Range = (row, days) in
+      sym (ap (list_any t) (present-more at rel i p d l (at_place rel i row days row_is days_is)) ∙ list_any-append t (present at (take i rel) d) (present at (p ∷ []) d))
+
+  -- a test of the rows of a day of as many places as there are
+  pub found_all : {cmp : F → F → Ordering} → IsExact cmp → (t : F → Bool) (rel : List (R × List Range)) (n : ℕ) (d : ℤ) → length rel ≤ n
+      → list_any t (present at (take n rel) d) ≡ list_any t (relation_at cmp at rel d)
+  found_all exact t rel n d l = ap (λ all. list_any t (present at all d)) (take_all n rel l) ∙ sym (list_any-set_of exact t (present at rel d))
+
+-- one more row, or none, is pushed
+pub pushed_size : {R : Type 0} (old new : List (R × List Range)) (row : R) (days : List Range) → new ≡ old ++ stored row days → length new ≤ length old + 1
+pushed_size old new row days e =
+    let more = length-stored row days in
+    let all = ap length e ∙ length-append old (stored row days) in
+    omega (arith, more, all)
+
+-- a row on those of its days on which it passes is what passes of the row
+pub filter-one : {F : Type 0} (p : F → Bool) (x : F) (h k : Bool) → k ≡ (h && p x) → (if k then x ∷ [] else []) ≡ filter p (if h then x ∷ [] else [])
+filter-one p x true k e = ap (λ b. if b then x ∷ [] else []) e
+filter-one p x false k e = ap (λ b. if b then x ∷ [] else []) e
+
+-- the image of a row on its days is the images of the row of the day
+pub map-one : {F : Type 0} (f : F → F) (x : F) (h : Bool) → (if h then f x ∷ [] else []) ≡ map f (if h then x ∷ [] else [])
+map-one f x true = refl
+map-one f x false = refl
+
+-- a row where the test does not hold, and its image where it does, is the row replaced
+pub replaced-one : {F : Type 0} (p : F → Bool) (f : F → F) (x : F) (h others changed : Bool) → others ≡ (h && not (p x)) → changed ≡ (h && p x)
+    → (if others then x ∷ [] else []) ++ (if changed then f x ∷ [] else []) ≡ map (replaced p f) (if h then x ∷ [] else [])
+replaced-one {F} p f x h others changed e k =
+    ap₂ (λ b c. (if b then x ∷ [] else []) ++ (if c then f x ∷ [] else [])) e k ∙ at h
+  where
+    one : (t : Bool) → (if not t then x ∷ [] else []) ++ (if t then f x ∷ [] else []) ≡ (if t then f x else x) ∷ []
+    one true = refl
+    one false = refl
+
+    at : (g : Bool) → (if g && not (p x) then x ∷ [] else []) ++ (if g && p x then f x ∷ [] else []) ≡ map (replaced p f) (if g then x ∷ [] else [])
+    at true = one (p x)
+    at false = refl
+
+-- the size with the products of one row more
+pub size_more : (a b i n m : ℕ) → a ≤ i * m → n ≤ m → b ≡ a + n → b ≤ (i + 1) * m
+size_more a b i n m h k e = grind (arith, h, k, e)
+
+module _ {F : Type 0} (f : F → F → F) where
+  -- products with two lists on the left, one after the other
+  pub products-append : (zs xs ys : List F) → products f (xs ++ ys) zs ≡ products f xs zs ++ products f ys zs
+  products-append zs xs ys = flat_map-append (λ x. map (f x) zs) xs ys
+
+  -- products of at most one row with two lists on the right, one after the other
+  pub one_products-append : (x : F) (h : Bool) (ys zs : List F) → products f (if h then x ∷ [] else []) (ys ++ zs) ≡ products f (if h then x ∷ [] else []) ys ++ products f (if h then x ∷ [] else []) zs
+  one_products-append x true ys zs =
+      append-nil (map (f x) (ys ++ zs)) ∙ map-append (f x) ys zs ∙ ap₂ (λ a b. a ++ b) (sym (append-nil (map (f x) ys))) (sym (append-nil (map (f x) zs)))
+  one_products-append x false ys zs = refl
+
+  -- products of two rows, each on its days
+  pub products-one : (x y : F) (h k both : Bool) → both ≡ (h && k) → (if both then f x y ∷ [] else []) ≡ products f (if h then x ∷ [] else []) (if k then y ∷ [] else [])
+  products-one x y true true both e = ap (λ b. if b then f x y ∷ [] else []) e
+  products-one x y true false both e = ap (λ b. if b then f x y ∷ [] else []) e
+  products-one x y false k both e = ap (λ b. if b then f x y ∷ [] else []) e
+
+module _ {F : Type 0} {cmp : F → F → Ordering} (o : IsExactOrder cmp) where
+  -- the set of the images of a set is that of the images of the list
+  pub set_of-map : (f : F → F) (xs : List F) → set_of cmp (map f xs) ≡ set_of cmp (map f (set_of cmp xs))
+  set_of-map f xs =
+      same_set_by_tests o (map f xs) (map f (set_of cmp xs))
+      (λ p. list_any-map p f xs ∙ sym (list_any-set_of o.exact (λ x. p (f x)) xs) ∙ sym (list_any-map p f (set_of cmp xs)))
+
+  -- a test of some product
+  list_any-products : (f : F → F → F) (p : F → Bool) (xs ys : List F) → list_any p (products f xs ys) ≡ list_any (λ x. list_any (λ y. p (f x y)) ys) xs
+  list_any-products f p [] ys = refl
+  list_any-products f p (x ∷ xs) ys =
+      list_any-append p (map (f x) ys) (products f xs ys) ∙ ap₂ (λ a b. a || b) (list_any-map p (f x) ys) (list_any-products f p xs ys)
+
+  -- a test that tells nothing apart tells nothing of the rows of a list apart
+  any_alike : (p q : F → Bool) (xs : List F) → ((x : F) → p x ≡ q x) → list_any p xs ≡ list_any q xs
+  any_alike p q [] h = refl
+  any_alike p q (x ∷ xs) h = ap₂ (λ a b. a || b) (h x) (any_alike p q xs h)
+
+  -- the set of the products of sets is that of the products of the lists
+  pub set_of-products : (f : F → F → F) (xs ys : List F) → set_of cmp (products f xs ys) ≡ set_of cmp (products f (set_of cmp xs) (set_of cmp ys))
+  set_of-products f xs ys =
+      same_set_by_tests o (products f xs ys) (products f (set_of cmp xs) (set_of cmp ys))
+      (λ p. list_any-products f p xs ys
+      ∙ any_alike (λ x. list_any (λ y. p (f x y)) ys) (λ x. list_any (λ y. p (f x y)) (set_of cmp ys)) xs (λ x. sym (list_any-set_of o.exact (λ y. p (f x y)) ys))
+      ∙ sym (list_any-set_of o.exact (λ x. list_any (λ y. p (f x y)) (set_of cmp ys)) xs)
+      ∙ sym (list_any-products f p (set_of cmp xs) (set_of cmp ys)))

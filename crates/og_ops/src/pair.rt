@@ -1,0 +1,69 @@
+//! Two rows glued, on the days on which both are present.
+ghost use Rattle.std.specs.Prelude.{◌≡◌, ◌&&◌, ℤ, Bool, false, IfOk, IfSome, IsNone};
+ghost use Rattle.og_base.specs.Calendar.{IsRefDay};
+ghost use Rattle.og_base.specs.Ranges.{holds_day};
+ghost use Rattle.og_ops.specs.Days.{is_hit, OnSomeDay, OnNoDay};
+
+use og_base::{DayCond, Glue, NoMemory, RtSet};
+use std::alloc::Global;
+
+/// A glued row, and its days.
+#[derive(Drop)]
+pub struct Hit<R> {
+    pub row: R,
+    pub days: RtSet,
+}
+
+/// The glued row on the days on which both rows are present and the condition holds of it; None
+/// where there is no such day. Refused only for want of memory.
+pub fn test_pair<R: Glue + Drop, C: DayCond<R>>(
+    alloc: Global,
+    left: &R,
+    left_days: &RtSet,
+    right: &R,
+    right_days: &RtSet,
+    cond: &C,
+) -> Result<Option<Hit<R>>, NoMemory>
+    ensures row { IfOk result (λ o. IfSome o (λ h. (d : ℤ) → IsRefDay d →
+        R.meaning h.row d ≡ R.glued (R.meaning left.now d) (R.meaning right.now d))) }
+    ensures days { IfOk result (λ o. IfSome o (λ h. (d : ℤ) → IsRefDay d →
+        holds_day h.days d ≡ is_hit R.glued (C.holds cond.now) (R.meaning left.now) (R.meaning right.now) left_days.now right_days.now d)) }
+    ensures some_day { IfOk result (λ o. IfSome o (λ h.
+        OnSomeDay (is_hit R.glued (C.holds cond.now) (R.meaning left.now) (R.meaning right.now) left_days.now right_days.now))) }
+    ensures no_day { IfOk result (λ o. IsNone o →
+        OnNoDay (is_hit R.glued (C.holds cond.now) (R.meaning left.now) (R.meaning right.now) left_days.now right_days.now)) }
+{
+    let Some(Hit { row, days: both }) = glued_pair(alloc, left, left_days, right, right_days)?
+    else {
+        return Ok(None);
+    };
+    let met = cond.days(alloc, &row)?;
+    let days = both.meet(&met)?;
+    days.normal();
+    if days.is_empty() {
+        return Ok(None);
+    }
+    Ok(Some(Hit { row, days }))
+}
+
+// The glued row on the days on which both rows are present; None where there is no such day.
+pub(crate) fn glued_pair<R: Glue + Drop>(
+    alloc: Global,
+    left: &R,
+    left_days: &RtSet,
+    right: &R,
+    right_days: &RtSet,
+) -> Result<Option<Hit<R>>, NoMemory>
+    ensures row { IfOk result (λ o. IfSome o (λ h. (d : ℤ) → IsRefDay d →
+        R.meaning h.row d ≡ R.glued (R.meaning left.now d) (R.meaning right.now d))) }
+    ensures days { IfOk result (λ o. IfSome o (λ h. (d : ℤ) →
+        holds_day h.days d ≡ (holds_day left_days.now d && holds_day right_days.now d))) }
+    ensures no_day { IfOk result (λ o. IsNone o → (d : ℤ) → (holds_day left_days.now d && holds_day right_days.now d) ≡ false) }
+{
+    let days = left_days.meet(right_days)?;
+    if days.is_empty() {
+        return Ok(None);
+    }
+    let row = left.glue(alloc, right)?;
+    Ok(Some(Hit { row, days }))
+}

@@ -1,0 +1,95 @@
+//! Rows on the days on which a condition holds of them, or on which it does not.
+ghost use Rattle.std.specs.Prelude.{◌≡◌, ◌++◌, ◌+◌, ◌≤◌, ◌&&◌, ℤ, [], ◌∷◌, IfOk, OnOk, filter, length};
+ghost use Rattle.og_base.specs.Calendar.{IsRefDay};
+ghost use Rattle.og_base.specs.Ranges.{holds_day};
+ghost use Rattle.og_rel.specs.Relations.{present, relation_at};
+ghost use Rattle.og_ops.specs.Plain.{is_wanted};
+
+use crate::operator::UnaryOp;
+use crate::puts::put_row;
+use og_base::{DayCond, Glue, NoMemory, RtSet};
+use og_rel::Rel;
+use std::alloc::Global;
+
+/// The rows of which a condition holds.
+#[derive(Drop)]
+pub struct Select<C> {
+    pub cond: C,
+}
+
+impl<R: Glue + Drop, C: DayCond<R>> UnaryOp<R> for Select<C> {
+    ghost use Rattle.std.specs.Prelude.{filter};
+
+    ghost plain = { λ op d xs. filter (C.holds op.cond d) xs };
+
+    ghost most = { λ op n. n };
+
+    fn apply(&self, alloc: Global, rel: &Rel<R>) -> Result<Rel<R>, NoMemory> {
+        sifted(alloc, &self.cond, true, rel)
+    }
+}
+
+/// The rows of which a condition does not hold.
+#[derive(Drop)]
+pub struct Restrict<C> {
+    pub cond: C,
+}
+
+impl<R: Glue + Drop, C: DayCond<R>> UnaryOp<R> for Restrict<C> {
+    ghost use Rattle.std.specs.Prelude.{filter, not};
+
+    ghost plain = { λ op d xs. filter (λ x. not (C.holds op.cond d x)) xs };
+
+    ghost most = { λ op n. n };
+
+    fn apply(&self, alloc: Global, rel: &Rel<R>) -> Result<Rel<R>, NoMemory> {
+        sifted(alloc, &self.cond, false, rel)
+    }
+}
+
+// The rows on the days on which the condition has the wanted truth.
+pub(crate) fn sifted<R: Glue + Drop, C: DayCond<R>>(
+    alloc: Global,
+    cond: &C,
+    wanted: bool,
+    rel: &Rel<R>,
+) -> Result<Rel<R>, NoMemory>
+    ensures law { IfOk result (λ r. (d : ℤ) → IsRefDay d → relation_at R.Fixed.cmp R.meaning r d
+        ≡ filter (λ x. is_wanted wanted (C.holds cond.now d x)) (relation_at R.Fixed.cmp R.meaning rel.now d)) }
+    ensures size { IfOk result (λ r. length r ≤ length rel.now) }
+{
+    let mut kept = Rel::new(alloc);
+    'rows: for i in 0..rel.len() {
+        keep_row(alloc, cond, wanted, rel.row(i), rel.days(i), &mut kept)?;
+    }
+    Ok(kept)
+}
+
+// Adds the row on those of its days on which the condition has the wanted truth.
+fn keep_row<R: Glue + Drop, C: DayCond<R>>(
+    alloc: Global,
+    cond: &C,
+    wanted: bool,
+    row: &R,
+    days: &RtSet,
+    kept: &mut Rel<R>,
+) -> Result<(), NoMemory>
+    ensures rows { OnOk result ((d : ℤ) → IsRefDay d → present R.meaning kept.new d
+        ≡ present R.meaning kept.old d ++ filter (λ x. is_wanted wanted (C.holds cond.now d x)) (present R.meaning ((row.now, days.now) ∷ []) d)) }
+    ensures size { OnOk result (length kept.new ≤ length kept.old + 1) }
+{
+    let met = cond.days(alloc, row)?;
+    let left = wanted_days(days, &met, wanted)?;
+    put_row(alloc, row, left, kept)
+}
+
+// Those of the days on which the truth, which is true on the days `met`, is the wanted one.
+pub(crate) fn wanted_days(days: &RtSet, met: &RtSet, wanted: bool) -> Result<RtSet, NoMemory>
+    ensures { IfOk result (λ s. (d : ℤ) → holds_day s d ≡ (holds_day days.now d && is_wanted wanted (holds_day met.now d))) }
+{
+    if wanted {
+        days.meet(met)
+    } else {
+        days.minus(met)
+    }
+}
