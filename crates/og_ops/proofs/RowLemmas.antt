@@ -1,12 +1,16 @@
 -- The rows of a day that an operator makes of those of a relation: of one row, and of all.
-use Rattle.std.proofs.Common.{◌≡◌, ◌++◌, ◌+◌, ◌*◌, ◌<◌, ◌≤◌, ◌&&◌, ◌||◌, ℕ, ℤ, Bool, true, false, not, List, [], ◌∷◌, length, get_or, map, filter, take, if◌then◌else◌, Ordering, refl, sym, ap, ap₂, ◌∙◌, arith}
+use Rattle.std.proofs.Common.{◌≡◌, ◌↔◌, ◌++◌, ◌+◌, ◌*◌, ◌<◌, ◌≤◌, ◌&&◌, ◌||◌, ℕ, ℤ, Bool, true, false, not, List, [], ◌∷◌, length, get_or, map, filter, take, if◌then◌else◌, Ordering, refl, sym, ap, ap₂, ◌∙◌, subst, arith}
 use Rattle.std.specs.List.{list_any}
+use Rattle.std.specs.Ordering.{eq_by_cmp}
+use Rattle.std.proofs.lemmas.Cmp.{eq_by_cmp_equiv}
 use Rattle.std.proofs.lemmas.Grind.{flat_map-append}
 use Rattle.std.proofs.lemmas.List.{append-nil, length-append, map-append, take_all}
 use Rattle.std.proofs.lemmas.List.Folds.{list_any-append}
 use Rattle.og_base.specs.Ranges.{Range, holds_day}
 use Rattle.og_base.specs.Set.{IsExact, IsExactOrder, set_of}
+use Rattle.og_base.proofs.SetLemmas.{eq_by_cmp-exact}
 use Rattle.og_base.proofs.SetMembers.{list_any-map, list_any-set_of}
+use Rattle.og_rel.specs.Algebra.{is_in}
 use Rattle.og_rel.specs.Relations.{present, relation_at, stored}
 use Rattle.og_rel.proofs.PresentLemmas.{at_place, present-more, present-push}
 use Rattle.og_rel.proofs.AlgebraLemmas.{same_set_by_tests}
@@ -93,6 +97,20 @@ module _ {F : Type 0} (f : F → F → F) where
   products-one x y false k both e = ap (λ b. if b then f x y ∷ [] else []) e
 
 module _ {F : Type 0} {cmp : F → F → Ordering} (o : IsExactOrder cmp) where
+  -- where the truth tells whether two rows are equal, with it a row is the one that is there on its days
+  pub is_in-one : (x y : F) (same h : Bool) → (same ≡ true) ↔ (x ≡ y) → (same && h) ≡ is_in cmp x (if h then y ∷ [] else [])
+  is_in-one x y same true e =
+      at same (eq_by_cmp cmp x y)
+      (λ t. subst (λ z. eq_by_cmp cmp x z ≡ true) (e.0 t) ((eq_by_cmp_equiv o.total).refl x))
+      (λ t. e.1 (eq_by_cmp-exact o.exact x y t))
+    where
+      at : (a b : Bool) → (a ≡ true → b ≡ true) → (b ≡ true → a ≡ true) → (a && true) ≡ (b || false)
+      at true b there back = sym (ap (λ t. t || false) (there refl))
+      at false true there back = back refl
+      at false false there back = refl
+  is_in-one x y true false e = refl
+  is_in-one x y false false e = refl
+
   -- the set of the images of a set is that of the images of the list
   pub set_of-map : (f : F → F) (xs : List F) → set_of cmp (map f xs) ≡ set_of cmp (map f (set_of cmp xs))
   set_of-map f xs =

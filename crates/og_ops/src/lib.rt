@@ -17,3 +17,6 @@ pub use project::Project;
 pub use sets::{Difference, Intersection, Union};
 pub use sift::{Restrict, Select};
 pub use split::Split;
+
+#[cfg(test)]
+mod tests;

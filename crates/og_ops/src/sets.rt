@@ -78,7 +78,7 @@ impl<'a, R: Glue + Drop> DayCond<R> for IsIn<'a, R> {
         let rel = self.rel;
         let mut found = RtSet::empty(alloc);
         'rows: for i in 0..rel.len() {
-            found = more_days(alloc, &found, row, rel.row(i), rel.days(i))?;
+            found = more_days(alloc, found, row, rel.row(i), rel.days(i))?;
         }
         Ok(found)
     }
@@ -87,15 +87,18 @@ impl<'a, R: Glue + Drop> DayCond<R> for IsIn<'a, R> {
 // The days found so far, and those on which the other row is present and the two are equal.
 fn more_days<R: Glue + Drop>(
     alloc: Global,
-    found: &RtSet,
+    found: RtSet,
     row: &R,
     other: &R,
     days: &RtSet,
 ) -> Result<RtSet, NoMemory>
     ensures { IfOk result (λ s. (d : ℤ) → IsRefDay d → holds_day s d
-        ≡ (holds_day found.now d || is_in R.Fixed.cmp (R.meaning row.now d) (present R.meaning ((other.now, days.now) ∷ []) d))) }
+        ≡ (holds_day found d || is_in R.Fixed.cmp (R.meaning row.now d) (present R.meaning ((other.now, days.now) ∷ []) d))) }
 {
     let same = row.same(alloc, other)?;
+    if same.is_empty() {
+        return Ok(found);
+    }
     let shared = same.meet(days)?;
     found.union(&shared)
 }
