@@ -164,6 +164,10 @@ fn items_of_from(rt: HostRuntime) -> Result<(), Fail> {
             "name taken statement 6: t",
         ),
         ("SELECT n FROM t a, t b", "ambiguous column statement 6: n"),
+        (
+            "SELECT vt FROM bugs b, patch p",
+            "ambiguous column statement 6: vt",
+        ),
         ("SELECT a.n FROM t a, t b", ""),
         ("SELECT t.n FROM t a", "no such column statement 6: t.n"),
         (
@@ -184,45 +188,79 @@ fn items_of_from(rt: HostRuntime) -> Result<(), Fail> {
     Ok(())
 }
 
+// The first fault of the names and a query with the condition.
+fn fault_of_condition(alloc: Global, condition: &str) -> Result<String, Fail> {
+    let statement = format!(in alloc; "EXPLAIN SELECT * FROM bugs, t WHERE {condition}")?;
+    fault(alloc, statement.as_str())
+}
+
 #[test]
-fn kinds_of_operands(rt: HostRuntime) -> Result<(), Fail> {
+fn kinds_of_compared_operands(rt: HostRuntime) -> Result<(), Fail> {
     for (condition, line) in [
         ("vt = 1", "kinds differ statement 6: PERIOD for DATE"),
         ("id = vt", "kinds differ statement 6: PERIOD for INT"),
         ("vt <> vt", "kinds differ statement 6: PERIOD for DATE"),
+        ("comp <> 1", "kinds differ statement 6: INT for TEXT"),
+        ("vt < p", "kinds differ statement 6: PERIOD for DATE"),
         ("p < n", "kinds differ statement 6: INT for DATE"),
+        ("vt <= z", "no such column statement 6: z"),
+        ("vt <= vt", "kinds differ statement 6: PERIOD for DATE"),
         ("comp <= p", "kinds differ statement 6: DATE for TEXT"),
+        ("vt > comp", "kinds differ statement 6: PERIOD for DATE"),
         ("n > comp", "kinds differ statement 6: TEXT for INT"),
+        ("vt >= 1", "kinds differ statement 6: PERIOD for DATE"),
         (
             "1 >= DATE '2020-01-01'",
             "kinds differ statement 6: DATE for INT",
         ),
+        ("z = y", "no such column statement 6: z"),
+        (
+            "n = 1 AND NOT (p = p OR y = 1)",
+            "no such column statement 6: y",
+        ),
+    ] {
+        assert_eq!(rt;
+            fault_of_condition(rt.alloc(), condition)?.as_str(),
+            line,
+            "{condition}"
+        );
+    }
+    Ok(())
+}
+
+#[test]
+fn kinds_of_related_operands(rt: HostRuntime) -> Result<(), Fail> {
+    for (condition, line) in [
         ("n BEFORE p", "kinds differ statement 6: INT for PERIOD"),
+        ("vt BEFORE p", "kinds differ statement 6: DATE for PERIOD"),
+        ("p MEETS vt", "kinds differ statement 6: DATE for PERIOD"),
         ("vt MEETS p", "kinds differ statement 6: DATE for PERIOD"),
         (
             "comp OVERLAPS vt",
             "kinds differ statement 6: TEXT for PERIOD",
         ),
-        ("vt STARTS n", "kinds differ statement 6: INT for PERIOD"),
+        ("vt OVERLAPS n", "kinds differ statement 6: INT for PERIOD"),
+        ("n STARTS vt", "kinds differ statement 6: INT for PERIOD"),
+        (
+            "vt STARTS comp",
+            "kinds differ statement 6: TEXT for PERIOD",
+        ),
         ("p FINISHES p", "kinds differ statement 6: DATE for PERIOD"),
+        ("vt FINISHES 1", "kinds differ statement 6: INT for PERIOD"),
+        ("'a' DURING vt", "kinds differ statement 6: TEXT for PERIOD"),
         ("vt DURING 'a'", "kinds differ statement 6: TEXT for PERIOD"),
         ("1 EQUALS 2", "kinds differ statement 6: INT for PERIOD"),
+        ("vt EQUALS p", "kinds differ statement 6: DATE for PERIOD"),
         ("EMPTY(p)", "kinds differ statement 6: DATE for PERIOD"),
         (
             "CONTAINS(p, n)",
             "kinds differ statement 6: DATE for PERIOD",
         ),
         ("CONTAINS(vt, n)", "kinds differ statement 6: INT for DATE"),
-        ("z = y", "no such column statement 6: z"),
-        (
-            "n = 1 AND NOT (p = p OR y = 1)",
-            "no such column statement 6: y",
-        ),
         ("vt DURING PERIOD(p, p) AND CONTAINS(vt, p)", ""),
     ] {
-        let statement = format!(in rt.alloc(); "EXPLAIN SELECT * FROM bugs, t WHERE {condition}")?;
         assert_eq!(rt;
-            fault(rt.alloc(), statement.as_str())?.as_str(),
+            fault_of_condition(rt.alloc(), condition)?.as_str(),
             line,
             "{condition}"
         );
