@@ -1,11 +1,6 @@
 -- What operators are on the rows of one day.
-use Rattle.std.specs.Prelude.{Bool, true, false, not, List, map, if◌then◌else◌}
+use Rattle.std.specs.Prelude.{Bool, List, map, if◌then◌else◌}
 use Rattle.std.specs.List.{flat_map}
-
--- whether a truth is the wanted one
-abbrev pub is_wanted : Bool → Bool → Bool
-is_wanted true b = b
-is_wanted false b = not b
 
 -- the image of a row of which the test holds, and each other row itself
 abbrev pub replaced : {F : Type 0} → (F → Bool) → (F → F) → F → F

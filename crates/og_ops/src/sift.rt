@@ -3,7 +3,7 @@ ghost use Rattle.std.specs.Prelude.{◌≡◌, ◌++◌, ◌+◌, ◌≤◌, ◌
 ghost use Rattle.og_base.specs.Calendar.{IsRefDay};
 ghost use Rattle.og_base.specs.Ranges.{holds_day};
 ghost use Rattle.og_rel.specs.Relations.{present, relation_at};
-ghost use Rattle.og_ops.specs.Plain.{is_wanted};
+ghost use Rattle.og_ops.specs.Wanted.{is_wanted};
 
 use crate::operator::UnaryOp;
 use crate::puts::put_row;

@@ -1,7 +1,7 @@
 use Rattle.std.proofs.Common.{◌&&◌, ap, ◌∙◌}
 use Rattle.std.proofs.lemmas.Result.{on_ok_weaker}
 use Rattle.og_base.specs.Ranges.{holds_day}
-use Rattle.og_ops.specs.Plain.{is_wanted}
+use Rattle.og_ops.specs.Wanted.{is_wanted}
 use Rattle.og_ops.proofs.RowLemmas.{pushed_rows, filter-one}
 use Rattle.og_ops.proofs.sift.keep_row.Goals as goal
 

@@ -4,7 +4,7 @@ use Rattle.og_base.specs.Set.{IsExactOrder, set_of}
 use Rattle.og_base.proofs.SetLemmas.{filter-set_of}
 use Rattle.og_rel.specs.Relations.{present}
 use Rattle.og_rel.proofs.PresentLemmas.{made_more}
-use Rattle.og_ops.specs.Plain.{is_wanted}
+use Rattle.og_ops.specs.Wanted.{is_wanted}
 use Rattle.og_ops.proofs.RowLemmas.{made_all}
 use Rattle.og_ops.proofs.sift.sifted.Goals as goal
 

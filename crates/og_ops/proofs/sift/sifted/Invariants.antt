@@ -1,7 +1,7 @@
 use Rattle.std.proofs.Common.{◌≡◌, ◌≤◌, ℤ, filter, length, take}
 use Rattle.og_base.specs.Calendar.{IsRefDay}
 use Rattle.og_rel.specs.Relations.{present}
-use Rattle.og_ops.specs.Plain.{is_wanted}
+use Rattle.og_ops.specs.Wanted.{is_wanted}
 use Rattle.og_ops.proofs.sift.sifted.Given as goal
 
 abbrev pub invariant-rows : goal.invariant-rows
