@@ -13,7 +13,7 @@ use Rattle.og_base.proofs.SetMembers.{list_any-map, list_any-set_of}
 use Rattle.og_rel.specs.Algebra.{is_in}
 use Rattle.og_rel.specs.Relations.{present, relation_at, stored}
 use Rattle.og_rel.proofs.PresentLemmas.{at_place, present-more, present-push}
-use Rattle.og_rel.proofs.AlgebraLemmas.{same_set_by_tests}
+use Rattle.og_rel.proofs.AlgebraLemmas.{same_set_by_tests, list_any-flat_map}
 use Rattle.og_ops.specs.Plain.{replaced, products}
 
 -- at most one row is stored with its days
@@ -79,6 +79,11 @@ replaced-one {F} p f x h others changed e k =
 pub size_more : (a b i n m : ℕ) → a ≤ i * m → n ≤ m → b ≡ a + n → b ≤ (i + 1) * m
 size_more a b i n m h k e = grind (arith, h, k, e)
 
+-- tests that agree on every row agree on a list of rows
+any_alike : {F : Type 0} (p q : F → Bool) (xs : List F) → ((x : F) → p x ≡ q x) → list_any p xs ≡ list_any q xs
+any_alike p q [] h = refl
+any_alike p q (x ∷ xs) h = ap₂ (λ a b. a || b) (h x) (any_alike p q xs h)
+
 module _ {F : Type 0} (f : F → F → F) where
   -- products with two lists on the left, one after the other
   pub products-append : (zs xs ys : List F) → products f (xs ++ ys) zs ≡ products f xs zs ++ products f ys zs
@@ -95,6 +100,12 @@ module _ {F : Type 0} (f : F → F → F) where
   products-one x y true true both e = ap (λ b. if b then f x y ∷ [] else []) e
   products-one x y true false both e = ap (λ b. if b then f x y ∷ [] else []) e
   products-one x y false k both e = ap (λ b. if b then f x y ∷ [] else []) e
+
+  -- a test holds of some product, where it does of some row of the left glued to some row of the right
+  pub list_any-products : (p : F → Bool) (xs ys : List F) → list_any p (products f xs ys) ≡ list_any (λ x. list_any (λ y. p (f x y)) ys) xs
+  list_any-products p xs ys =
+      list_any-flat_map p (λ x. map (f x) ys) xs
+      ∙ any_alike (λ x. list_any p (map (f x) ys)) (λ x. list_any (λ y. p (f x y)) ys) xs (λ x. list_any-map p (f x) ys)
 
 module _ {F : Type 0} {cmp : F → F → Ordering} (o : IsExactOrder cmp) where
   -- where the truth tells whether two rows are equal, with it a row is the one that is there on its days
@@ -116,17 +127,6 @@ module _ {F : Type 0} {cmp : F → F → Ordering} (o : IsExactOrder cmp) where
   set_of-map f xs =
       same_set_by_tests o (map f xs) (map f (set_of cmp xs))
       (λ p. list_any-map p f xs ∙ sym (list_any-set_of o.exact (λ x. p (f x)) xs) ∙ sym (list_any-map p f (set_of cmp xs)))
-
-  -- a test of some product
-  list_any-products : (f : F → F → F) (p : F → Bool) (xs ys : List F) → list_any p (products f xs ys) ≡ list_any (λ x. list_any (λ y. p (f x y)) ys) xs
-  list_any-products f p [] ys = refl
-  list_any-products f p (x ∷ xs) ys =
-      list_any-append p (map (f x) ys) (products f xs ys) ∙ ap₂ (λ a b. a || b) (list_any-map p (f x) ys) (list_any-products f p xs ys)
-
-  -- a test that tells nothing apart tells nothing of the rows of a list apart
-  any_alike : (p q : F → Bool) (xs : List F) → ((x : F) → p x ≡ q x) → list_any p xs ≡ list_any q xs
-  any_alike p q [] h = refl
-  any_alike p q (x ∷ xs) h = ap₂ (λ a b. a || b) (h x) (any_alike p q xs h)
 
   -- the set of the products of sets is that of the products of the lists
   pub set_of-products : (f : F → F → F) (xs ys : List F) → set_of cmp (products f xs ys) ≡ set_of cmp (products f (set_of cmp xs) (set_of cmp ys))
