@@ -1,0 +1,6 @@
+//! Joins: the rows of two relations that can meet on some day, found by the spans of their days.
+#![tactic(auto)]
+
+mod sweep;
+
+pub use sweep::candidates;
