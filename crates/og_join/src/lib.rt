@@ -4,3 +4,6 @@
 mod sweep;
 
 pub use sweep::candidates;
+
+#[cfg(test)]
+mod tests;
