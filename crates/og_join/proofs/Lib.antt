@@ -1,2 +1,3 @@
 pub mod OverlapLemmas
+pub mod PlaceLemmas
 pub mod SweepLemmas

@@ -10,7 +10,7 @@ use Rattle.og_join.specs.Overlaps.{NoneBelow, Rises, overlap, row_overlaps, over
 use Rattle.og_join.specs.Sweep.{reach_of, row_places, column_places, column_overlaps}
 
 -- a number and one is the next one
-add_one : (n : ℕ) → n + 1 ≡ suc n
+pub add_one : (n : ℕ) → n + 1 ≡ suc n
 add_one n = omega arith
 
 -- one more place at the head of a row
@@ -22,7 +22,7 @@ column_places-more : (i j n : ℕ) → column_places i j (n + 1) ≡ (i, j) ∷ 
 column_places-more i j n = ap (column_places i j) (add_one n)
 
 -- a test holds, or it does not
-by_test : {P : Type 0} (t : Bool) → (t ≡ true → P) → (t ≡ false → P) → P
+pub by_test : {P : Type 0} (t : Bool) → (t ≡ true → P) → (t ≡ false → P) → P
 by_test true f g = f refl
 by_test false f g = g refl
 
