@@ -1,5 +1,5 @@
 //! Rows whose value depends on the day, and what is done with such rows on every day at once.
-ghost use Rattle.std.specs.Prelude.{◌≡◌, ◌↔◌, ℤ, Bool, true, IfOk};
+ghost use Rattle.std.specs.Prelude.{◌≡◌, ◌↔◌, ℤ, Bool, true, false, IfOk};
 ghost use Rattle.og_base.specs.Calendar.{IsRefDay};
 ghost use Rattle.og_base.specs.Ranges.{holds_day};
 ghost use Rattle.og_base.specs.Set.{IsExact};
@@ -36,6 +36,18 @@ pub trait OngoingRow: Instant {
         ensures { IfOk result (λ r. r ≡ self.now) };
 }
 
+/// Rows that stand in groups: rows that are equal on some day are in one group.
+pub trait Grouped: OngoingRow {
+    ghost group_of: { Self → Self.Fixed };
+
+    /// The group of the row.
+    fn group(&self, alloc: Global) -> Result<Self::Fixed, NoMemory>
+        ensures { IfOk result (λ g. g ≡ group_of self.now) };
+
+    /// Rows that are equal on some day are in one group.
+    ghost grouped: { (x y : Self) (d : ℤ) → IsRefDay d → Self.meaning x d ≡ Self.meaning y d → group_of x ≡ group_of y };
+}
+
 /// Rows of which two are glued to one.
 pub trait Glue: OngoingRow {
     ghost glued: { Self.Fixed → Self.Fixed → Self.Fixed };
@@ -47,13 +59,34 @@ pub trait Glue: OngoingRow {
 }
 
 /// A condition on the rows of a day.
-pub trait DayCond<R: Instant> {
+pub trait DayCond<R: Glue + Drop> {
     ghost holds: { Self → ℤ → R.Fixed → Bool };
 
     /// The days on which the condition holds of the row.
     fn days(&self, alloc: Global, row: &R) -> Result<RtSet, NoMemory>
         ensures { IfOk result (λ s. (d : ℤ) → IsRefDay d →
             holds_day s d ≡ holds self.now d (R.meaning row.now d)) };
+
+    /// The days on which the condition holds of the two rows glued. Where nothing better is known,
+    /// the rows are glued for it.
+    fn days_of_pair(&self, alloc: Global, left: &R, right: &R) -> Result<RtSet, NoMemory>
+        ensures { IfOk result (λ s. (d : ℤ) → IsRefDay d →
+            holds_day s d ≡ holds self.now d (R.glued (R.meaning left.now d) (R.meaning right.now d))) }
+    {
+        let row = left.glue(alloc, right)?;
+        self.days(alloc, &row)
+    }
+
+    /// Whether the condition may hold of the two rows glued: where not, it holds of them on no day.
+    /// Takes no memory. Where nothing better is known, it may.
+    fn may_hold(&self, left: &R, right: &R) -> bool
+        ensures { result ≡ false → (d : ℤ) → IsRefDay d →
+            holds self.now d (R.glued (R.meaning left.now d) (R.meaning right.now d)) ≡ false }
+    {
+        let _ = left;
+        let _ = right;
+        true
+    }
 }
 
 /// A map of the rows of a day.

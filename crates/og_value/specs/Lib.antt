@@ -1,5 +1,7 @@
 pub mod Cells
 pub mod Exact
+pub mod GroupLaws
+pub mod Groups
 pub mod Order
 pub mod Schemas
 pub mod Values

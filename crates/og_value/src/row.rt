@@ -9,7 +9,7 @@ ghost use Rattle.og_value.specs.declared.value.FixedValue as fixed;
 
 use crate::listed::Listed;
 use crate::value::{FixedValue, Value};
-use og_base::{Glue, Instant, NoMemory, OngoingRow, RefDay, RtSet};
+use og_base::{Glue, Grouped, Instant, NoMemory, OngoingRow, RefDay, RtSet};
 use std::alloc::Global;
 use std::marker::Model;
 
@@ -133,6 +133,25 @@ impl OngoingRow for Row {
     fn copy(&self, alloc: Global) -> Result<Row, NoMemory> {
         joined(alloc, self.values.as_slice(), &[])
     }
+}
+
+/// The group of a row is its numbers and texts, and which of its other values are points and which
+/// are periods.
+impl Grouped for Row {
+    ghost use Rattle.og_value.specs.GroupLaws.{rows_grouped};
+    ghost use Rattle.og_value.specs.Groups.{row_group};
+
+    ghost group_of = { λ row. row_group row };
+
+    fn group(&self, alloc: Global) -> Result<FixedRow, NoMemory> {
+        let mut values = Vec::with_capacity(alloc, self.len())?;
+        'values: for value in self.values.as_slice() {
+            values.push(value.group()?)?;
+        }
+        Ok(FixedRow::of(values))
+    }
+
+    ghost grouped = { rows_grouped };
 }
 
 impl Glue for Row {

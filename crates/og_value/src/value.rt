@@ -3,6 +3,7 @@ ghost use Rattle.std.specs.Prelude.{◌≡◌, ℤ, IfOk};
 ghost use Rattle.std.specs.Bool.{Decides};
 ghost use Rattle.og_base.specs.Calendar.{IsRefDay};
 ghost use Rattle.og_base.specs.Ranges.{holds_day};
+ghost use Rattle.og_value.specs.Groups.{value_group};
 ghost use Rattle.og_value.specs.Values.{value_at};
 ghost use Rattle.og_time.specs.Period.{period_at};
 
@@ -14,9 +15,13 @@ use std::alloc::Global;
 /// A value of a row. A point and a period depend on the day.
 #[derive(Debug, PartialEq, Eq, Drop)]
 pub enum Value {
+    /// A number, the same on all days.
     Int(i64),
+    /// A text, the same on all days.
     Text(Text),
+    /// A point: on each day a day.
     Point(OngoingPoint),
+    /// A period: on each day a period of days.
     Period(OngoingPeriod),
 }
 
@@ -24,9 +29,13 @@ pub enum Value {
 /// days are ordered by number, texts by their bytes, periods by start, then end.
 #[derive(Debug, PartialEq, Eq, PartialOrd, Ord, Drop)]
 pub enum FixedValue {
+    /// A number.
     Int(i64),
+    /// A text.
     Text(Text),
+    /// A day, or one of the two infinities.
     Date(ExtDay),
+    /// A period of days.
     Period(FixedPeriod),
 }
 
@@ -68,6 +77,22 @@ impl Value {
             (Value::Period(i), Value::Period(j)) => same_periods(alloc, *i, *j),
             _ => Ok(RtSet::empty(alloc)),
         }
+    }
+
+    /// The group of the value: values of two groups are equal on no day.
+    pub(crate) fn group(&self) -> Result<FixedValue, NoMemory>
+        ensures { IfOk result (λ x. x ≡ value_group self.now) }
+    {
+        let group = match self {
+            Value::Int(n) => FixedValue::Int(*n),
+            Value::Text(text) => FixedValue::Text(text.copy()?),
+            Value::Point(_) => FixedValue::Date(ExtDay::NEG),
+            Value::Period(_) => FixedValue::Period(FixedPeriod {
+                start: ExtDay::NEG,
+                end: ExtDay::NEG,
+            }),
+        };
+        Ok(group)
     }
 }
 
