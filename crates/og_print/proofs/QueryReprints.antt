@@ -18,6 +18,7 @@ use Rattle.og_syntax.specs.Rules as rules_
 use Rattle.og_syntax.specs.Grammar.{IsConjOf, IsNegIn, IsCond, IsAlias, IsFitem, IsItem, IsItemList, IsItems, IsFirstTable, IsJoinedTable, IsFurtherTable, IsTables, IsSub, IsSemi, IsSemis, IsWcondOf, IsWcond, IsCore, IsFurtherCore, IsQuery}
 use Rattle.std.proofs.lemmas.Bool.{ne_eqb}
 use Rattle.og_syntax.proofs.EverySort.{everywhere}
+use Rattle.og_syntax.proofs.WhereRules.{Between, after_each, between}
 use Rattle.og_parse.specs.Depth.{opened_after}
 use Rattle.og_print.specs.Words.{Word, Plain}
 use Rattle.og_print.specs.Queries.{op_sort, alias_words, cond_clause_words, item_words, item_list_words, items_words, name_words, table_words, further_table_words, tables_words, semi_words, semis_words, front_words, where_words, core_words, rest_words, query_words}
@@ -163,40 +164,6 @@ FrontOf Neg = rules_.Bind (Many (With Neg)) (λ xs. rules_.pure (before_semis xs
 -- a conjunction and the AND after it
 abbrev OneFront : Rule CondText → Rule (Option CondText)
 OneFront Neg = rules_.Bind (IsConjOf Neg) (λ x. rules_.Bind (Tok k.And) (λ _. rules_.pure (Some x)))
-
--- AND after each is AND between them, and AND after the last
-after_each : (Neg : Rule CondText) (ts : List Lexeme) (x : CondText) (a : List Lexeme) (xs : List CondText) (b rest : List Lexeme)
-    → Neg ts x a → Many (Past k.And Neg) a xs b → Tok k.And b tt rest → Many (With Neg) ts (x ∷ xs) rest
-after_each Neg ts x a [] b rest h m t = (rest, (x, a, h, (tt, rest, subst (λ b. Tok k.And b tt rest) m t, (refl, refl))), refl)
-after_each Neg ts x a (y ∷ ys) b rest h m t =
-    let n = m.1 in (n.1, (x, a, h, (tt, n.1, n.2, (refl, refl))), after_each Neg n.1 y m.0 ys b rest n.3 m.2 t)
-
--- the places at which several conditions end
-record Between (Neg : Rule CondText) (ts : List Lexeme) (x : CondText) (xs : List CondText) (rest : List Lexeme) : Type 0 where
-  pub first_end : List Lexeme
-  pub last_end : List Lexeme
-  pub first : Neg ts x first_end
-  pub others : Many (Past k.And Neg) first_end xs last_end
-  pub then_and : Tok k.And last_end tt rest
-
--- AND after each is AND between them, and AND after the last
-between : (Neg : Rule CondText) (ts : List Lexeme) (x : CondText) (xs : List CondText) (rest : List Lexeme) → Many (With Neg) ts (x ∷ xs) rest → Between Neg ts x xs rest
-between Neg ts x [] rest m =
-    let n = m.1 in let s = n.3 in record {
-      first_end = n.1;
-      last_end = n.1;
-      first = subst (λ y. Neg ts y n.1) (sym s.3.0) n.2;
-      others = refl;
-      then_and = subst (λ r. Tok k.And n.1 tt r) (sym (m.2 ∙ s.3.1)) s.2;
-    }
-between Neg ts x (y ∷ ys) rest m =
-    let n = m.1 in let s = n.3 in let later = between Neg m.0 y ys rest m.2 in record {
-      first_end = n.1;
-      last_end = later.last_end;
-      first = subst (λ y. Neg ts y n.1) (sym s.3.0) n.2;
-      others = (later.first_end, (tt, m.0, subst (λ r. Tok k.And n.1 tt r) (sym s.3.1) s.2, later.first), later.others);
-      then_and = later.then_and;
-    }
 
 -- several with AND after each are a conjunction and the AND after it
 front_to : (Neg : Rule CondText) (ts : List Lexeme) (x : CondText) (xs : List CondText) (rest : List Lexeme) → Many (With Neg) ts (x ∷ xs) rest → OneFront Neg ts (Some (all_of (x ∷ xs))) rest

@@ -6,42 +6,7 @@ use Rattle.og_base.proofs.DayTexts.{civil_in_range, text_is}
 use Rattle.og_time.specs.Point.{Point, IsPoint, IsPointText, point_text}
 use Rattle.og_time.specs.Period.{Period, IsPeriodText, period_text, bracketed}
 use Rattle.og_time.proofs.PointWriting.{point_text-is}
-
--- a day text is of a day
-day_in_range : (text : List ℕ) (n : ℤ) → IsDayText text n → IsExtDay n
-day_in_range text n (inl a) = (omega (arith, ints, a.1), omega (arith, ints, a.1))
-day_in_range text n (inr (inl a)) = (omega (arith, ints, a.1), omega (arith, ints, a.1))
-day_in_range text n (inr (inr a)) = let r = civil_in_range text n a in (omega (arith, ints, r.0), omega (arith, ints, r.1))
-
--- a point text is of a point
-point_in_range : (text : List ℕ) (p : Point) → IsPointText text p → IsPoint p
-point_in_range text p (inl a) =
-    let r = day_in_range text p.low a.0 in
-    record { low_in = r; high_in = subst IsExtDay (sym a.1) r; ordered = omega (arith, ints, a.1) }
-point_in_range text p (inr (inl a)) = record {
-  low_in = (omega (arith, ints, a.1), omega (arith, ints, a.1));
-  high_in = (omega (arith, ints, a.2), omega (arith, ints, a.2));
-  ordered = omega (arith, ints, a.1, a.2);
-}
-point_in_range text p (inr (inr (inl a))) =
-    let r = civil_in_range a.0 p.low a.2 in record {
-      low_in = (omega (arith, ints, r.0), omega (arith, ints, r.1));
-      high_in = (omega (arith, ints, a.3), omega (arith, ints, a.3));
-      ordered = omega (arith, ints, r.1, a.3);
-    }
-point_in_range text p (inr (inr (inr (inl a)))) =
-    let r = civil_in_range a.0 p.high a.3 in record {
-      low_in = (omega (arith, ints, a.2), omega (arith, ints, a.2));
-      high_in = (omega (arith, ints, r.0), omega (arith, ints, r.1));
-      ordered = omega (arith, ints, r.0, a.2);
-    }
-point_in_range text p (inr (inr (inr (inr a)))) =
-    let r = civil_in_range a.0 p.low a.3 in
-    let s = civil_in_range a.1 p.high a.4 in record {
-      low_in = (omega (arith, ints, r.0), omega (arith, ints, r.1));
-      high_in = (omega (arith, ints, s.0), omega (arith, ints, s.1));
-      ordered = omega (arith, ints, a.5);
-    }
+use Rattle.og_syntax.proofs.TextValues.{day_in_range, point_in_range}
 
 -- a day's text
 pub day_again : (text : List ℕ) (n : ℤ) → IsDayText text n → text ≡ day_text n

@@ -118,7 +118,7 @@ if_text_complete : {A : Type 0} (written : A → List ℕ) (text : List ℕ) (x 
 if_text_complete written text x e = ap (λ b. if b then Some x else None) ((bytes_eq-Decides (written x) text).1 (sym e))
 
 -- a day text is of a day
-day_in_range : (text : List ℕ) (n : ℤ) → IsDayText text n → IsExtDay n
+pub day_in_range : (text : List ℕ) (n : ℤ) → IsDayText text n → IsExtDay n
 day_in_range text n (inl a) = (omega (arith, ints, a.1), omega (arith, ints, a.1))
 day_in_range text n (inr (inl a)) = (omega (arith, ints, a.1), omega (arith, ints, a.1))
 day_in_range text n (inr (inr a)) = let r = civil_in_range text n a in (omega (arith, ints, r.0), omega (arith, ints, r.1))
@@ -140,7 +140,7 @@ day_of-complete text n h =
     a.1 ∙ ap Some (one_day text a.0 n (day_of-sound text a.0 a.1) h)
 
 -- a point text is of a point
-point_in_range : (text : List ℕ) (p : Point) → IsPointText text p → IsPoint p
+pub point_in_range : (text : List ℕ) (p : Point) → IsPointText text p → IsPoint p
 point_in_range text p (inl a) =
     let r = day_in_range text p.low a.0 in
     record { low_in = r; high_in = subst IsExtDay (sym a.1) r; ordered = omega (arith, ints, a.1) }

@@ -31,7 +31,7 @@ abbrev pub NoSemi : Rule CondText → Type 0
 NoSemi Neg = (ts : List Lexeme) (x : CondText) (rest : List Lexeme) → Neg ts x rest → begins_semi ts ≡ false
 
 -- AND after each is AND between them, and AND after the last
-after_each : (Neg : Rule CondText) (ts : List Lexeme) (x : CondText) (a : List Lexeme) (xs : List CondText) (b rest : List Lexeme)
+pub after_each : (Neg : Rule CondText) (ts : List Lexeme) (x : CondText) (a : List Lexeme) (xs : List CondText) (b rest : List Lexeme)
     → Neg ts x a → Many (Past k.And Neg) a xs b → Tok k.And b tt rest → Many (With Neg) ts (x ∷ xs) rest
 after_each Neg ts x a [] b rest h m t = (rest, (x, a, h, (tt, rest, subst (λ b. Tok k.And b tt rest) m t, (refl, refl))), refl)
 after_each Neg ts x a (y ∷ ys) b rest h m t =
@@ -46,7 +46,7 @@ pub record Between (Neg : Rule CondText) (ts : List Lexeme) (x : CondText) (xs :
   pub then_and : Tok k.And last_end tt rest
 
 -- AND after each is AND between them, and AND after the last
-between : (Neg : Rule CondText) (ts : List Lexeme) (x : CondText) (xs : List CondText) (rest : List Lexeme) → Many (With Neg) ts (x ∷ xs) rest → Between Neg ts x xs rest
+pub between : (Neg : Rule CondText) (ts : List Lexeme) (x : CondText) (xs : List CondText) (rest : List Lexeme) → Many (With Neg) ts (x ∷ xs) rest → Between Neg ts x xs rest
 between Neg ts x [] rest m =
     let n = m.1 in let s = n.3 in record {
       first_end = n.1;
