@@ -1,2 +1,4 @@
 pub mod DayLemmas
+pub mod KeyLemmas
+pub mod MetLemmas
 pub mod RowLemmas

@@ -33,16 +33,21 @@ pub fn test_pair<R: Glue + Drop, C: DayCond<R>>(
     ensures no_day { IfOk result (λ o. IsNone o →
         OnNoDay (is_hit R.glued (C.holds cond.now) (R.meaning left.now) (R.meaning right.now) left_days.now right_days.now)) }
 {
-    let Some(Hit { row, days: both }) = glued_pair(alloc, left, left_days, right, right_days)?
-    else {
+    // This test takes no memory and refuses most pairs.
+    if !cond.may_hold(left, right) {
         return Ok(None);
-    };
-    let met = cond.days(alloc, &row)?;
+    }
+    let both = left_days.meet(right_days)?;
+    if both.is_empty() {
+        return Ok(None);
+    }
+    let met = cond.days_of_pair(alloc, left, right)?;
     let days = both.meet(&met)?;
     days.normal();
     if days.is_empty() {
         return Ok(None);
     }
+    let row = left.glue(alloc, right)?;
     Ok(Some(Hit { row, days }))
 }
 

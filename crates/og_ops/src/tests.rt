@@ -5,7 +5,9 @@ use crate::{
     BinaryOp, Difference, Intersection, Product, Project, Restrict, Select, Split, UnaryOp, Union,
     test_pair,
 };
-use og_base::{DayCond, ExtDay, Glue, Instant, NoMemory, OngoingRow, RefDay, RowMap, RtSet};
+use og_base::{
+    DayCond, ExtDay, Glue, Grouped, Instant, NoMemory, OngoingRow, RefDay, RowMap, RtSet,
+};
 use og_rel::Rel;
 use std::alloc::Global;
 
@@ -41,6 +43,16 @@ impl OngoingRow for Number {
     fn copy(&self, _alloc: Global) -> Result<Number, NoMemory> {
         Ok(*self)
     }
+}
+
+impl Grouped for Number {
+    ghost group_of = { λ row. row.value };
+
+    fn group(&self, _alloc: Global) -> Result<u32, NoMemory> {
+        Ok(self.value)
+    }
+
+    ghost grouped = { λ x y d day same. same };
 }
 
 impl Glue for Number {

@@ -1,0 +1,113 @@
+-- Whether a row meets some of the rows that are lent from a relation: of one more row, of the rows in another order, and of those with a key alone.
+use Rattle.std.proofs.Common.{◌≡◌, ◌++◌, ◌+◌, ◌<◌, ◌≤◌, ◌&&◌, ◌||◌, ℕ, ℤ, Bool, true, false, List, [], ◌∷◌, length, get_or, filter, take, if◌then◌else◌, Ordering, refl, sym, ap, ◌∙◌, true≢false}
+use Rattle.std.specs.List.{All, list_any}
+use Rattle.std.specs.List.Sorted.{IsPermutation}
+use Rattle.std.proofs.lemmas.List.{map-append, take_more}
+use Rattle.std.proofs.lemmas.List.Elements.{All-head, All-tail, filter_agree}
+use Rattle.std.proofs.lemmas.List.Folds.{list_any-append}
+use Rattle.std.proofs.lemmas.List.Sorted.{IsPermutation-map, list_any-IsPermutation}
+use Rattle.og_base.specs.Ranges.{Range, holds_day}
+use Rattle.og_base.specs.Set.{IsExactOrder, set_of}
+use Rattle.og_base.proofs.SetLemmas.{filter-set_of}
+use Rattle.og_base.proofs.SetMembers.{list_any-set_of}
+use Rattle.og_rel.specs.Relations.{present, relation_at}
+use Rattle.og_rel.proofs.PresentLemmas.{at_place, present-append, list_any-present}
+use Rattle.og_ops.specs.declared.semijoins.KeyedRow.{KeyedRow}
+use Rattle.og_ops.specs.Lending.{lent}
+use Rattle.og_ops.specs.Wanted.{is_wanted}
+use Rattle.og_ops.proofs.RowLemmas.{made_all}
+
+-- and with a truth that is true
+and_true : (b : Bool) → (b && true) ≡ (b || false)
+and_true true = refl
+and_true false = refl
+
+-- and with a truth that is false
+and_false : (b : Bool) → (b && false) ≡ false
+and_false true = refl
+and_false false = refl
+
+-- or with a truth that is false
+or_false : (b : Bool) → b ≡ (b || false)
+or_false true = refl
+or_false false = refl
+
+-- what is not true is false
+not_true : (b : Bool) → (b ≡ true → ⊥) → b ≡ false
+not_true true h = absurd (h refl)
+not_true false h = refl
+
+module _ {F : Type 0} (t : F → Bool) (x : F) where
+  -- a test of a row that is there on its days
+  any_one : (here : Bool) → (t x && here) ≡ list_any t (if here then x ∷ [] else [])
+  any_one true = and_true (t x)
+  any_one false = and_false (t x)
+
+  -- the days found so far, and those on which the row is there and meets
+  pub met_one : (all found shared met here : Bool) → all ≡ (found || shared) → shared ≡ (met && here) → met ≡ t x → all ≡ (found || list_any t (if here then x ∷ [] else []))
+  met_one all found shared met here e k m = e ∙ ap (λ b. found || b) (k ∙ ap (λ b. b && here) m ∙ any_one here)
+
+  -- a row that does not meet adds nothing
+  pub met_none : (found here : Bool) → t x ≡ false → found ≡ (found || list_any t (if here then x ∷ [] else []))
+  met_none found here e = or_false found ∙ ap (λ b. found || b) (sym (ap (λ b. b && here) e) ∙ any_one here)
+
+module _ {R F K : Type 0} (at : R → ℤ → F) (t : F → Bool) (d : ℤ) where
+  -- a test of the rows of a day of one more row
+  pub lent_found_more : (rows : List (KeyedRow R K)) (i : ℕ) (s : KeyedRow R K) → i < length rows → s ≡ get_or rows i s
+      → (list_any t (present at (lent (take i rows)) d) || list_any t (present at ((s.row.now, s.days.now) ∷ []) d)) ≡ list_any t (present at (lent (take (i + 1) rows)) d)
+  lent_found_more rows i s l e =
+      sym (ap (λ q. list_any t (present at (lent q) d)) (take_more rows i s l ∙ ap (λ q. take i rows ++ q ∷ []) (sym e))
+      ∙ ap (λ q. list_any t (present at q d)) (map-append (λ q. (q.row.now, q.days.now)) (take i rows) (s ∷ []))
+      ∙ ap (list_any t) (present-append at (lent (take i rows)) ((s.row.now, s.days.now) ∷ []) d)
+      ∙ list_any-append t (present at (lent (take i rows)) d) (present at ((s.row.now, s.days.now) ∷ []) d))
+
+  -- a test of the rows of a day in another order
+  pub lent_found-IsPermutation : (rows sorted : List (KeyedRow R K)) → IsPermutation rows sorted → list_any t (present at (lent sorted) d) ≡ list_any t (present at (lent rows) d)
+  lent_found-IsPermutation rows sorted moved =
+      list_any-present at t (lent sorted) d
+      ∙ sym (list_any-IsPermutation (λ p. holds_day p.1 d && t (at p.0 d)) (lent rows) (lent sorted) (IsPermutation-map (λ q. (q.row.now, q.days.now)) rows sorted moved))
+      ∙ sym (list_any-present at t (lent rows) d)
+
+  -- a test of the rows of a day that pass another, which each row of which the test holds passes
+  pub lent_found-filter : (pass : KeyedRow R K → Bool) (rows : List (KeyedRow R K)) → All (λ s. t (at s.row.now d) ≡ true → pass s ≡ true) rows
+      → list_any t (present at (lent (filter pass rows)) d) ≡ list_any t (present at (lent rows) d)
+  lent_found-filter pass [] h = refl
+  lent_found-filter pass (s ∷ rows) h =
+      first (pass s) (lent_found-filter pass rows (All-tail (λ q. t (at q.row.now d) ≡ true → pass q ≡ true) s rows h))
+      (All-head (λ q. t (at q.row.now d) ≡ true → pass q ≡ true) s rows h)
+    where
+      with_first : (here : Bool) → list_any t (present at (lent (filter pass rows)) d) ≡ list_any t (present at (lent rows) d)
+          → list_any t (if here then at s.row.now d ∷ present at (lent (filter pass rows)) d else present at (lent (filter pass rows)) d)
+          ≡ list_any t (if here then at s.row.now d ∷ present at (lent rows) d else present at (lent rows) d)
+      with_first true e = ap (λ b. t (at s.row.now d) || b) e
+      with_first false e = e
+
+      without_first : (here : Bool) → t (at s.row.now d) ≡ false → list_any t (present at (lent (filter pass rows)) d) ≡ list_any t (present at (lent rows) d)
+          → list_any t (present at (lent (filter pass rows)) d) ≡ list_any t (if here then at s.row.now d ∷ present at (lent rows) d else present at (lent rows) d)
+      without_first true none e = e ∙ ap (λ b. b || list_any t (present at (lent rows) d)) (sym none)
+      without_first false none e = e
+
+      first : (p : Bool) → list_any t (present at (lent (filter pass rows)) d) ≡ list_any t (present at (lent rows) d) → (t (at s.row.now d) ≡ true → p ≡ true)
+          → list_any t (present at (lent (if p then s ∷ filter pass rows else filter pass rows)) d) ≡ list_any t (present at (lent (s ∷ rows)) d)
+      first true e h = with_first (holds_day s.days.now d) e
+      first false e h = without_first (holds_day s.days.now d) (not_true (t (at s.row.now d)) (λ y. true≢false (sym (h y)))) e
+
+-- one more row that is lent, at its place
+pub lent_more : {R K : Type 0} (rel : List (R × List Range)) (old new : List (KeyedRow R K)) (i : ℕ) (s : KeyedRow R K) → i < length rel → new ≡ old ++ s ∷ []
+    → ((p : R × List Range) → s.row.now ≡ (get_or rel i p).0) → ((p : R × List Range) → s.days.now ≡ (get_or rel i p).1) → lent old ≡ take i rel → lent new ≡ take (i + 1) rel
+lent_more {R} rel old new i s l e row_is days_is before =
+    let p : R × List Range = (s.row.now, s.days.now) in
+    ap lent e ∙ map-append (λ q. (q.row.now, q.days.now)) old (s ∷ []) ∙ ap (λ q. q ++ p ∷ []) before
+    ∙ sym (take_more rel i p l ∙ ap (λ q. take i rel ++ q ∷ []) (sym (at_place rel i s.row.now s.days.now row_is days_is)))
+
+-- what is kept of the rows of as many places as there are, by tests of the rows that are lent, is what is kept of the relation by tests of the other one
+pub met_law : {R F : Type 0} {cmp : F → F → Ordering} → IsExactOrder cmp → (at : R → ℤ → F) (meets : F → F → Bool) (wanted : Bool) (left right others kept : List (R × List Range)) (n : ℕ) (d : ℤ)
+    → length left ≤ n → ((t : F → Bool) → list_any t (present at others d) ≡ list_any t (present at right d))
+    → present at kept d ≡ filter (λ x. is_wanted wanted (list_any (meets x) (present at others d))) (present at (take n left) d)
+    → relation_at cmp at kept d ≡ filter (λ x. is_wanted wanted (list_any (meets x) (relation_at cmp at right d))) (relation_at cmp at left d)
+met_law {F = F} {cmp = cmp} o at meets wanted left right others kept n d l same e =
+    let p : F → Bool = λ x. is_wanted wanted (list_any (meets x) (present at others d)) in
+    let q : F → Bool = λ x. is_wanted wanted (list_any (meets x) (relation_at cmp at right d)) in
+    ap (set_of cmp) (made_all at (filter p) left kept n d l e)
+    ∙ sym (filter-set_of o p (present at left d))
+    ∙ filter_agree p q (λ x. ap (is_wanted wanted) (same (meets x) ∙ sym (list_any-set_of o.exact (meets x) (present at right d)))) (relation_at cmp at left d)
