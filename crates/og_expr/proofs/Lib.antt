@@ -1,2 +1,4 @@
+pub mod BoundLemmas
+pub mod ColumnLemmas
 pub mod PartLemmas
 pub mod PointComparisons

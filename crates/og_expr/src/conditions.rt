@@ -6,6 +6,8 @@ ghost use Rattle.og_base.specs.Ranges.{holds_day};
 ghost use Rattle.og_value.specs.Values.{row_at};
 ghost use Rattle.og_query.specs.Conditions.{truth};
 
+use crate::bounds::may_hold;
+use crate::columns::Columns;
 use crate::comparisons::{compare_days, contain_days, empty_days, relate_days};
 use crate::values::value;
 use og_base::{DayCond, NoMemory, RtSet};
@@ -24,58 +26,71 @@ impl DayCond<Row> for CondDays<'_> {
     ghost holds = { λ c d row. truth d row c.cond.now };
 
     fn days(&self, alloc: Global, row: &Row) -> Result<RtSet, NoMemory> {
-        days(alloc, self.cond, row)
+        let none = Row::of(Vec::new(alloc));
+        let columns = Columns {
+            left: row,
+            right: &none,
+        };
+        days(alloc, self.cond, &columns)
+    }
+
+    fn days_of_pair(&self, alloc: Global, left: &Row, right: &Row) -> Result<RtSet, NoMemory> {
+        days(alloc, self.cond, &Columns { left, right })
+    }
+
+    fn may_hold(&self, left: &Row, right: &Row) -> bool {
+        may_hold(self.cond, &Columns { left, right })
     }
 }
 
-// The days on which the condition holds of the row.
+// The days on which the condition holds of the columns.
 #[cycle(conditions)]
-fn days(alloc: Global, cond: &Cond, row: &Row) -> Result<RtSet, NoMemory>
-    ensures { IfOk result (λ s. (d : ℤ) → IsRefDay d → holds_day s d ≡ truth d (row_at row.now d) cond.now) }
+fn days(alloc: Global, cond: &Cond, columns: &Columns<'_>) -> Result<RtSet, NoMemory>
+    ensures { IfOk result (λ s. (d : ℤ) → IsRefDay d → holds_day s d ≡ truth d (row_at columns.now d) cond.now) }
 {
     match cond {
-        Cond::And(parts) => all_days(alloc, parts, row),
-        Cond::Or(parts) => any_days(alloc, parts, row),
-        Cond::Not(part) => days(alloc, part.get(), row)?.complement(),
+        Cond::And(parts) => all_days(alloc, parts, columns),
+        Cond::Or(parts) => any_days(alloc, parts, columns),
+        Cond::Not(part) => days(alloc, part.get(), columns)?.complement(),
         Cond::Compare { op, left, right } => {
-            let left = value(alloc, left, row)?;
-            let right = value(alloc, right, row)?;
+            let left = value(alloc, left, columns)?;
+            let right = value(alloc, right, columns)?;
             compare_days(alloc, *op, &left, &right)
         }
         Cond::Relate { pred, left, right } => {
-            let left = value(alloc, left, row)?;
-            let right = value(alloc, right, row)?;
+            let left = value(alloc, left, columns)?;
+            let right = value(alloc, right, columns)?;
             relate_days(alloc, *pred, &left, &right)
         }
-        Cond::Empty(period) => empty_days(alloc, &value(alloc, period, row)?),
+        Cond::Empty(period) => empty_days(alloc, &value(alloc, period, columns)?),
         Cond::Contains(period, day) => {
-            let period = value(alloc, period, row)?;
-            let day = value(alloc, day, row)?;
+            let period = value(alloc, period, columns)?;
+            let day = value(alloc, day, columns)?;
             contain_days(alloc, &period, &day)
         }
     }
 }
 
-// The days on which all of the conditions hold of the row.
+// The days on which all of the conditions hold of the columns.
 #[cycle(conditions)]
-fn all_days(alloc: Global, parts: &Items<Cond>, row: &Row) -> Result<RtSet, NoMemory>
-    ensures { IfOk result (λ s. (d : ℤ) → IsRefDay d → holds_day s d ≡ list_all (truth d (row_at row.now d)) parts.now) }
+fn all_days(alloc: Global, parts: &Items<Cond>, columns: &Columns<'_>) -> Result<RtSet, NoMemory>
+    ensures { IfOk result (λ s. (d : ℤ) → IsRefDay d → holds_day s d ≡ list_all (truth d (row_at columns.now d)) parts.now) }
 {
     let mut held = RtSet::all(alloc)?;
     'parts: for part in parts.as_slice() {
-        held = held.meet(&days(alloc, part, row)?)?;
+        held = held.meet(&days(alloc, part, columns)?)?;
     }
     Ok(held)
 }
 
-// The days on which one of the conditions holds of the row.
+// The days on which one of the conditions holds of the columns.
 #[cycle(conditions)]
-fn any_days(alloc: Global, parts: &Items<Cond>, row: &Row) -> Result<RtSet, NoMemory>
-    ensures { IfOk result (λ s. (d : ℤ) → IsRefDay d → holds_day s d ≡ list_any (truth d (row_at row.now d)) parts.now) }
+fn any_days(alloc: Global, parts: &Items<Cond>, columns: &Columns<'_>) -> Result<RtSet, NoMemory>
+    ensures { IfOk result (λ s. (d : ℤ) → IsRefDay d → holds_day s d ≡ list_any (truth d (row_at columns.now d)) parts.now) }
 {
     let mut held = RtSet::empty(alloc);
     'parts: for part in parts.as_slice() {
-        held = held.union(&days(alloc, part, row)?)?;
+        held = held.union(&days(alloc, part, columns)?)?;
     }
     Ok(held)
 }

@@ -1,6 +1,8 @@
 //! Conditions and items of queries, on rows that depend on the day.
 #![tactic(auto)]
 
+mod bounds;
+mod columns;
 mod comparisons;
 mod conditions;
 mod items;

@@ -112,3 +112,52 @@ fn items_give_the_row_of_their_values(rt: HostRuntime) -> Result<(), Fail> {
     }
     Ok(())
 }
+
+// The period at the place of the glued row overlaps its last one.
+fn overlapping(place: usize) -> Cond {
+    Cond::Relate {
+        pred: Pred::Overlaps,
+        left: Expr::Column(place),
+        right: Expr::Column(5),
+    }
+}
+
+#[test]
+fn a_condition_holds_of_a_pair_on_the_days_on_which_it_holds_of_the_glued_row(
+    rt: HostRuntime,
+) -> Result<(), Fail> {
+    let alloc = rt.alloc();
+    let cond = overlapping(2);
+    let held = CondDays { cond: &cond }.days_of_pair(alloc, &row(alloc)?, &row(alloc)?)?;
+    let mut text = Vec::new(alloc);
+    write_rt(&held, &mut text)?;
+    assert!(rt; text.as_slice() == b"{[2020-01-26,infinity)}".as_slice());
+    Ok(())
+}
+
+#[test]
+fn a_pair_that_is_apart_on_all_days_is_told_at_once(rt: HostRuntime) -> Result<(), Fail> {
+    let alloc = rt.alloc();
+    let earlier = Cond::Relate {
+        pred: Pred::Overlaps,
+        left: Expr::Column(5),
+        right: literal(alloc, Kind::Period, "[2019-01-01,2020-01-25)")?,
+    };
+    let differ = Cond::Compare {
+        op: Cmp::Ne,
+        left: Expr::Column(0),
+        right: Expr::Column(3),
+    };
+    let number = overlapping(0);
+    let both = overlapping(2);
+    for (cond, may) in [
+        (&earlier, false),
+        (&differ, false),
+        (&number, false),
+        (&both, true),
+    ] {
+        let told = CondDays { cond }.may_hold(&row(alloc)?, &row(alloc)?);
+        assert_eq!(rt; told, may);
+    }
+    Ok(())
+}

@@ -4,10 +4,11 @@ ghost use Rattle.og_base.specs.Calendar.{IsRefDay};
 ghost use Rattle.og_value.specs.Values.{value_at, row_at};
 ghost use Rattle.og_query.specs.Expressions.{no_value, call_of, meaning};
 
+use crate::columns::Columns;
 use og_base::NoMemory;
 use og_query::Expr;
 use og_time::OngoingPeriod;
-use og_value::{Func, Row, Value};
+use og_value::{Func, Value};
 use std::alloc::Global;
 
 // The function of the values, and the number 0 where it does not take values of these kinds.
@@ -34,40 +35,43 @@ fn call(func: Func, values: &[Value]) -> Value
     }
 }
 
-// The value at the place of the row, and the number 0 where the row has no such place.
-fn column(row: &Row, place: usize) -> Result<Value, NoMemory>
-    ensures { IfOk result (λ v. (d : ℤ) → value_at v d ≡ slice_index_or (row_at row.now d) place no_value) }
+// The value at the place, and the number 0 where there is no such place.
+fn column(columns: &Columns<'_>, place: usize) -> Result<Value, NoMemory>
+    ensures { IfOk result (λ v. (d : ℤ) → value_at v d ≡ slice_index_or (row_at columns.now d) place no_value) }
 {
-    if place < row.len() {
-        row.value(place).copy()
-    } else {
-        Ok(Value::Int(0))
+    match columns.get(place) {
+        Some(value) => value.copy(),
+        None => Ok(Value::Int(0)),
     }
 }
 
-// The value of the expression on the row.
+// The value of the expression on the columns.
 #[cycle(values)]
-pub(crate) fn value(alloc: Global, expr: &Expr, row: &Row) -> Result<Value, NoMemory>
-    ensures { IfOk result (λ v. (d : ℤ) → IsRefDay d → value_at v d ≡ meaning d (row_at row.now d) expr.now) }
+pub(crate) fn value(alloc: Global, expr: &Expr, columns: &Columns<'_>) -> Result<Value, NoMemory>
+    ensures { IfOk result (λ v. (d : ℤ) → IsRefDay d → value_at v d ≡ meaning d (row_at columns.now d) expr.now) }
 {
     match expr {
-        Expr::Column(place) => column(row, *place),
+        Expr::Column(place) => column(columns, *place),
         Expr::Lit(value) => value.copy(),
         Expr::Call { func, args } => {
-            let values = values_of(alloc, args.as_slice(), row)?;
+            let values = values_of(alloc, args.as_slice(), columns)?;
             Ok(call(*func, values.as_slice()))
         }
     }
 }
 
-// The values of the expressions on the row.
+// The values of the expressions on the columns.
 #[cycle(values)]
-pub(crate) fn values_of(alloc: Global, exprs: &[Expr], row: &Row) -> Result<Vec<Value>, NoMemory>
-    ensures { IfOk result (λ vs. (d : ℤ) → IsRefDay d → row_at vs.items d ≡ map (meaning d (row_at row.now d)) exprs.now) }
+pub(crate) fn values_of(
+    alloc: Global,
+    exprs: &[Expr],
+    columns: &Columns<'_>,
+) -> Result<Vec<Value>, NoMemory>
+    ensures { IfOk result (λ vs. (d : ℤ) → IsRefDay d → row_at vs.items d ≡ map (meaning d (row_at columns.now d)) exprs.now) }
 {
     let mut values = Vec::with_capacity(alloc, exprs.len())?;
     'all: for expr in exprs {
-        values.push(value(alloc, expr, row)?)?;
+        values.push(value(alloc, expr, columns)?)?;
     }
     Ok(values)
 }
