@@ -1,3 +1,9 @@
+pub mod JoinedLemmas
+pub mod OverlapJoinLemmas
 pub mod OverlapLemmas
 pub mod PlaceLemmas
+pub mod PlaceTests
+pub mod SameKeyLemmas
+pub mod SpanLemmas
 pub mod SweepLemmas
+pub mod TryLemmas

@@ -1,0 +1,134 @@
+-- The law of the overlap join: what is made of the pairs of places that overlap has the rows of the join.
+use Rattle.std.proofs.Common.{◌≡◌, ◌≤◌, ◌*◌, ◌&&◌, ℕ, ℤ, Bool, true, false, List, length, map, filter, int_lt, Ordering, IsPermutation, refl, sym, subst, ap, ap₂, ◌∙◌, arith}
+use Rattle.std.specs.List.{All, list_any}
+use Rattle.std.proofs.Math.Bool.{and-false}
+use Rattle.std.proofs.lemmas.List.Sorted.{list_any-IsPermutation, length_permutation}
+use Rattle.og_base.specs.Calendar.{IsRefDay}
+use Rattle.og_base.specs.Ranges.{Range, holds_day}
+use Rattle.og_base.specs.Set.{IsExactOrder, set_of}
+use Rattle.og_base.specs.declared.comparison.Outer.{Outer}
+use Rattle.og_base.specs.declared.range.FixedPeriod.{FixedPeriod}
+use Rattle.og_base.proofs.BoundaryLemmas.{int_lt-yes}
+use Rattle.og_base.proofs.SetMembers.{list_any-map, list_any-filter}
+use Rattle.og_rel.specs.Relations.{present, relation_at}
+use Rattle.og_rel.proofs.AlgebraLemmas.{same_set_by_tests, list_any-flat_map}
+use Rattle.og_rel.proofs.PresentLemmas.{list_any-relation_at}
+use Rattle.og_join.specs.Joined.{joined, DoOverlap, AreTold}
+use Rattle.og_join.specs.Overlaps.{overlap, overlaps}
+use Rattle.og_join.specs.Places.{is_at}
+use Rattle.og_join.specs.Tried.{has_days, at_row, has_span, AreSpansOf, do_meet, rows_meet, spans_meet}
+use Rattle.og_join.proofs.PlaceTests.{same_test, list_any-and, list_any-known, is_at-and, list_any-is_at, list_any-overlaps, length-overlaps}
+
+-- the third of four truths
+third : (h k c m : Bool) → (((h && k) && c) && m) ≡ true → c ≡ true
+third h k true m e = refl
+third h k false m e = sym (ap (λ b. b && m) (and-false (h && k))) ∙ e
+
+-- what makes others true adds nothing beside them
+and_told : (a b c e m : Bool) → (m ≡ true → (a ≡ true) × (b ≡ true) × (c ≡ true) × (e ≡ true)) → (a && (b && ((c && e) && m))) ≡ m
+and_told a b c e true h =
+    let all = h refl in
+    ap₂ (λ u v. u && (v && ((c && e) && true))) all.0 all.1 ∙ ap₂ (λ u v. (u && v) && true) all.2 all.3
+and_told a b c e false h = ap (λ u. a && (b && u)) (and-false (c && e)) ∙ ap (λ u. a && u) (and-false b) ∙ and-false a
+
+-- four truths in order
+and_across : (h k c m : Bool) → (h && (k && (c && m))) ≡ (((h && k) && c) && m)
+and_across true true c m = refl
+and_across true false c m = refl
+and_across false k c m = refl
+
+module _ {R F : Type 0} (glued : F → F → F) (at : R → ℤ → F) (holds : ℤ → F → Bool) (left right : List (R × List Range)) (t : F → Bool) (d : ℤ) where
+  -- the ends of two spans overlap, and the rows meet
+  abbrev both : ℤ → ℤ → R × List Range → ℤ → ℤ → R × List Range → Bool
+  both lo hi p rlo rhi q = (int_lt lo rhi && int_lt rlo hi) && do_meet glued at holds t d p q
+
+  module _ (left_span right_span : R → FixedPeriod) (ls rs : List Outer)
+      (lefts : AreSpansOf left_span left ls) (rights : AreSpansOf right_span right rs) where
+    -- a test of the pairs of spans that overlap is a test of the rows that have them
+    any_pair : list_any (λ p. spans_meet glued at holds left right ls rs p t d) (overlaps (λ o. o.lo) (λ o. o.hi) 0 0 ls rs)
+        ≡ list_any (has_span left_span (λ lo hi p. list_any (has_span right_span (both lo hi p)) right)) left
+    any_pair =
+        list_any-overlaps (λ o. o.lo) (λ o. o.hi) (λ p. spans_meet glued at holds left right ls rs p t d) (λ a b. rows_meet glued at holds left right a.row b.row t d) 0 0 ls rs
+        (λ m k. ap₂ (λ i j. spans_meet glued at holds left right ls rs (i, j) t d) (omega arith) (omega arith))
+        ∙ ap (λ test. list_any test ls) (same_test _ _ each)
+        ∙ lefts (λ lo hi p. list_any (has_span right_span (both lo hi p)) right)
+      where
+        within : (a b : Outer) → (overlap (λ o. o.lo) (λ o. o.hi) a b && rows_meet glued at holds left right a.row b.row t d)
+            ≡ is_at (λ p. is_at (both a.lo a.hi p b.lo b.hi) right b.row) left a.row
+        within a b =
+            is_at-and (overlap (λ o. o.lo) (λ o. o.hi) a b) (λ p. is_at (do_meet glued at holds t d p) right b.row) left a.row
+            ∙ ap (λ test. is_at test left a.row) (same_test _ _ (λ p. is_at-and (overlap (λ o. o.lo) (λ o. o.hi) a b) (do_meet glued at holds t d p) right b.row))
+
+        each : (a : Outer) → list_any (λ b. overlap (λ o. o.lo) (λ o. o.hi) a b && rows_meet glued at holds left right a.row b.row t d) rs
+            ≡ at_row (λ lo hi p. list_any (has_span right_span (both lo hi p)) right) left a
+        each a =
+            ap (λ test. list_any test rs) (same_test _ _ (within a))
+            ∙ list_any-is_at (λ b p. is_at (both a.lo a.hi p b.lo b.hi) right b.row) rs left a.row
+            ∙ ap (λ test. is_at test left a.row) (same_test _ _ (λ p. rights (both a.lo a.hi p)))
+
+    -- where the spans of all rows that meet overlap, it is a test of the pairs of rows
+    any_told : IsRefDay d → AreTold glued at holds left_span right_span left right
+        → list_any (has_span left_span (λ lo hi p. list_any (has_span right_span (both lo hi p)) right)) left ≡ list_any (λ p. list_any (do_meet glued at holds t d p) right) left
+    any_told r told = list_any-known (λ p. All (Told p) right) _ _ row left told
+      where
+        Told : R × List Range → R × List Range → Type 0
+        Told p q = (e : ℤ) → IsRefDay e → holds e (glued (at p.0 e) (at q.0 e)) ≡ true → DoOverlap (left_span p.0) (right_span q.0)
+
+        pair : (p q : R × List Range) → Told p q → (has_days (left_span p.0) && has_span right_span (both (left_span p.0).start (left_span p.0).end p) q) ≡ do_meet glued at holds t d p q
+        pair p q know =
+            and_told (has_days (left_span p.0)) (has_days (right_span q.0)) (int_lt (left_span p.0).start (right_span q.0).end) (int_lt (right_span q.0).start (left_span p.0).end) (do_meet glued at holds t d p q)
+            (λ met. let o = know d r (third (holds_day p.1 d) (holds_day q.1 d) (holds d (glued (at p.0 d) (at q.0 d))) (t (glued (at p.0 d) (at q.0 d))) met) in (
+              int_lt-yes (left_span p.0).start (left_span p.0).end o.first,
+              int_lt-yes (right_span q.0).start (right_span q.0).end o.second,
+              int_lt-yes (left_span p.0).start (right_span q.0).end o.before,
+              int_lt-yes (right_span q.0).start (left_span p.0).end o.after,
+            ))
+
+        row : (p : R × List Range) → All (Told p) right → has_span left_span (λ lo hi x. list_any (has_span right_span (both lo hi x)) right) p ≡ list_any (do_meet glued at holds t d p) right
+        row p know =
+            list_any-and (has_days (left_span p.0)) (has_span right_span (both (left_span p.0).start (left_span p.0).end p)) right
+            ∙ list_any-known (Told p) (λ q. has_days (left_span p.0) && has_span right_span (both (left_span p.0).start (left_span p.0).end p) q) (do_meet glued at holds t d p) (pair p) right know
+
+  -- a test of the join on the day is a test of the pairs of rows
+  any_joined : {cmp : F → F → Ordering} → IsExactOrder cmp
+      → list_any t (joined glued (λ x y. holds d (glued x y)) (relation_at cmp at left d) (relation_at cmp at right d)) ≡ list_any (λ p. list_any (do_meet glued at holds t d p) right) left
+  any_joined {cmp = cmp} o =
+      list_any-flat_map t (λ x. map (glued x) (filter (λ y. holds d (glued x y)) (relation_at cmp at right d))) (relation_at cmp at left d)
+      ∙ list_any-relation_at o at _ left d
+      ∙ ap (λ test. list_any test left) (same_test _ _ row)
+    where
+      row : (p : R × List Range) → (holds_day p.1 d && list_any t (map (glued (at p.0 d)) (filter (λ y. holds d (glued (at p.0 d) y)) (relation_at cmp at right d)))) ≡ list_any (do_meet glued at holds t d p) right
+      row p =
+          ap (λ b. holds_day p.1 d && b)
+          (list_any-map t (glued (at p.0 d)) (filter (λ y. holds d (glued (at p.0 d) y)) (relation_at cmp at right d))
+          ∙ list_any-filter (λ y. t (glued (at p.0 d) y)) (λ y. holds d (glued (at p.0 d) y)) (relation_at cmp at right d)
+          ∙ list_any-relation_at o at (λ y. holds d (glued (at p.0 d) y) && t (glued (at p.0 d) y)) right d)
+          ∙ list_any-and (holds_day p.1 d) (λ q. holds_day q.1 d && (holds d (glued (at p.0 d) (at q.0 d)) && t (glued (at p.0 d) (at q.0 d)))) right
+          ∙ ap (λ test. list_any test right) (same_test _ _ (λ q. and_across (holds_day p.1 d) (holds_day q.1 d) (holds d (glued (at p.0 d) (at q.0 d))) (t (glued (at p.0 d) (at q.0 d)))))
+
+-- where the rows of a relation pass the tests that the pairs of places do which overlap, it is the join on the day
+pub overlap_law : {R F : Type 0} {cmp : F → F → Ordering} → IsExactOrder cmp → (glued : F → F → F) (at : R → ℤ → F) (holds : ℤ → F → Bool) (left_span right_span : R → FixedPeriod)
+    (left right made : List (R × List Range)) (ls rs : List Outer) (places : List (ℕ × ℕ)) (d : ℤ) → IsRefDay d
+    → AreSpansOf left_span left ls → AreSpansOf right_span right rs → IsPermutation places (overlaps (λ o. o.lo) (λ o. o.hi) 0 0 ls rs)
+    → ((t : F → Bool) → list_any t (present at made d) ≡ list_any (λ p. spans_meet glued at holds left right ls rs p t d) places)
+    → AreTold glued at holds left_span right_span left right
+    → relation_at cmp at made d ≡ set_of cmp (joined glued (λ x y. holds d (glued x y)) (relation_at cmp at left d) (relation_at cmp at right d))
+overlap_law {cmp = cmp} o glued at holds left_span right_span left right made ls rs places d r lefts rights moved met told =
+    same_set_by_tests o (present at made d) (joined glued (λ x y. holds d (glued x y)) (relation_at cmp at left d) (relation_at cmp at right d))
+    (λ t. met t
+    ∙ list_any-IsPermutation (λ p. spans_meet glued at holds left right ls rs p t d) _ _ moved
+    ∙ any_pair glued at holds left right t d left_span right_span ls rs lefts rights
+    ∙ any_told glued at holds left right t d left_span right_span ls rs lefts rights r told
+    ∙ sym (any_joined glued at holds left right t d o))
+
+-- at most the product of rows is made of the pairs of places that overlap
+pub overlap_size : (made hits places lefts rights n m : ℕ) → made ≤ hits → hits ≤ places → places ≤ lefts * rights → lefts ≤ n → rights ≤ m → made ≤ n * m
+overlap_size made hits places lefts rights n m a b c e f = omega (arith, a, b, c, monotone)
+  where
+    monotone : lefts * rights ≤ n * m
+    monotone = grind (arith, e, f)
+
+-- as many places as of spans that overlap are at most the product of spans
+pub places_size : (ls rs : List Outer) (places given : List (ℕ × ℕ)) → given ≡ places → IsPermutation places (overlaps (λ o. o.lo) (λ o. o.hi) 0 0 ls rs) → length given ≤ length ls * length rs
+places_size ls rs places given e moved =
+    subst (λ n. n ≤ length ls * length rs) (length_permutation _ _ moved ∙ sym (ap length e)) (length-overlaps (λ o. o.lo) (λ o. o.hi) 0 0 ls rs)

@@ -1,0 +1,200 @@
+-- Hits that are made of left rows and the right rows of their keys, and what is joined of them.
+use Rattle.std.proofs.Common.{◌≡◌, ◌++◌, ◌+◌, ◌*◌, ◌<◌, ◌≤◌, ◌&&◌, ℕ, suc, ℤ, Bool, true, false, List, [], ◌∷◌, length, get_or, filter, map, take, if◌then◌else◌, Ordering, refl, sym, ap, ap₂, ◌∙◌, subst, arith}
+use Rattle.std.specs.Cmp.{IsTotalOrder}
+use Rattle.std.specs.List.{All, list_any}
+use Rattle.std.specs.Ordering.{eq_by_cmp}
+use Rattle.std.proofs.lemmas.Grind.{flat_map-append}
+use Rattle.std.proofs.lemmas.List.{append-nil, append_assoc, length-append, length-map, map-append, take_more}
+use Rattle.std.proofs.lemmas.List.Elements.{All-head, All-tail}
+use Rattle.og_base.specs.Calendar.{IsRefDay}
+use Rattle.og_base.specs.Ranges.{Range, holds_day}
+use Rattle.og_base.specs.Set.{IsExactOrder, set_of}
+use Rattle.og_par.specs.Phase.{MadeOfEach}
+use Rattle.og_par.proofs.PhaseLemmas.{MadeOfEach-shown}
+use Rattle.og_rel.specs.Relations.{present, relation_at, stored}
+use Rattle.og_rel.proofs.AlgebraLemmas.{length-filter_le}
+use Rattle.og_rel.proofs.PresentLemmas.{at_place, present-append, present-more, present-stored}
+use Rattle.og_ops.proofs.RowLemmas.{length-stored}
+use Rattle.og_ops.specs.Days.{is_hit, OnNoDay}
+use Rattle.og_ops.specs.Lending.{lent}
+use Rattle.og_ops.specs.declared.pair.Hit.{Hit}
+use Rattle.og_ops.specs.declared.semijoins.KeyedRow.{KeyedRow}
+use Rattle.og_join.specs.Hits.{stored_hits}
+use Rattle.og_join.specs.Joined.{joined}
+use Rattle.og_join.specs.SameKey.{AreHits, HaveDayKeys, joined_same_key}
+use Rattle.og_join.specs.declared.same_key.SameKey.{SameKey}
+use Rattle.og_join.proofs.JoinedLemmas.{ties_turned, joined-append, one_joined-append, one_joined-nil, joined-one, set_of-joined}
+
+-- no more rows are stored than there are hits
+pub length-stored_hits : {R : Type 0} (hits : List (Hit R)) → length (stored_hits hits) ≤ length hits
+length-stored_hits [] = omega arith
+length-stored_hits (h ∷ hits) =
+    omega (arith, length-append (stored h.row h.days) (stored_hits hits), length-stored h.row h.days, length-stored_hits hits)
+
+-- one more row that is lent
+lent-more : {R K : Type 0} (rows : List (KeyedRow R K)) (i : ℕ) (s : KeyedRow R K) → i < length rows → s ≡ get_or rows i s → lent (take (i + 1) rows) ≡ lent (take i rows) ++ (s.row.now, s.days.now) ∷ []
+lent-more rows i s l e =
+    ap lent (take_more rows i s l ∙ ap (λ q. take i rows ++ q ∷ []) (sym e)) ∙ map-append (λ q. (q.row.now, q.days.now)) (take i rows) (s ∷ [])
+
+module _ {R F : Type 0} (at : R → ℤ → F) where
+  -- the stored rows of a day of hits, one after the other
+  present-hits : (d : ℤ) (a b : List (Hit R)) → present at (stored_hits (a ++ b)) d ≡ present at (stored_hits a) d ++ present at (stored_hits b) d
+  present-hits d a b = ap (λ rel. present at rel d) (flat_map-append (λ h. stored h.row h.days) a b) ∙ present-append at (stored_hits a) (stored_hits b) d
+
+  -- the stored row of a day of one hit
+  present-hit : (d : ℤ) (h : Hit R) → present at (stored_hits (h ∷ [])) d ≡ (if holds_day h.days d then at h.row d ∷ [] else [])
+  present-hit d h = ap (λ rel. present at rel d) (append-nil (stored h.row h.days)) ∙ present-stored at h.row h.days d
+
+  module _ (glued : F → F → F) (holds : ℤ → F → Bool) (row : R) (days : List Range) where
+    -- without others there are no hits
+    pub AreHits-nil : AreHits glued holds at row days [] []
+    AreHits-nil = record { law = λ d r. one_joined-nil glued (λ x y. holds d (glued x y)) (at row d) (holds_day days d); size = omega arith }
+
+    -- others, and more others
+    AreHits-append : (xs ys : List (R × List Range)) (a b : List (Hit R)) → AreHits glued holds at row days xs a → AreHits glued holds at row days ys b → AreHits glued holds at row days (xs ++ ys) (a ++ b)
+    AreHits-append xs ys a b h k = record {
+      law = λ d r.
+          present-hits d a b ∙ ap₂ (λ us vs. us ++ vs) (h.law d r) (k.law d r)
+          ∙ sym (one_joined-append glued (λ x y. holds d (glued x y)) (at row d) (holds_day days d) (present at xs d) (present at ys d))
+          ∙ ap (joined glued (λ x y. holds d (glued x y)) (present at ((row, days) ∷ []) d)) (sym (present-append at xs ys d));
+      size = omega (arith, length-append a b, length-append xs ys, h.size, k.size);
+    }
+
+    -- the others up to one more, which add more hits
+    pub AreHits-more : {K : Type 0} (rows : List (KeyedRow R K)) (i : ℕ) (s : KeyedRow R K) (initial old new a b : List (Hit R)) → i < length rows → s ≡ get_or rows i s
+        → AreHits glued holds at row days (lent (take i rows)) a → old ≡ initial ++ a → AreHits glued holds at row days ((s.row.now, s.days.now) ∷ []) b → new ≡ old ++ b
+        → (made : List (Hit R)) × AreHits glued holds at row days (lent (take (i + 1) rows)) made × (new ≡ initial ++ made)
+    AreHits-more rows i s initial old new a b l e h olds k news = (
+      a ++ b,
+      subst (λ others. AreHits glued holds at row days others (a ++ b)) (sym (lent-more rows i s l e)) (AreHits-append (lent (take i rows)) ((s.row.now, s.days.now) ∷ []) a b h k),
+      news ∙ ap (λ hits. hits ++ b) olds ∙ append_assoc initial a b,
+    )
+
+    -- the hit of one other
+    pub AreHits-one : (other : R) (other_days : List Range) (h : Hit R) → ((d : ℤ) → IsRefDay d → at h.row d ≡ glued (at row d) (at other d))
+        → ((d : ℤ) → IsRefDay d → holds_day h.days d ≡ is_hit glued holds (at row) (at other) days other_days d) → AreHits glued holds at row days ((other, other_days) ∷ []) (h ∷ [])
+    AreHits-one other other_days h row_is days_are = record {
+      law = λ d r.
+          present-hit d h
+          ∙ joined-one glued (λ x y. holds d (glued x y)) (at row d) (at other d) (at h.row d) (holds_day days d) (holds_day other_days d) (holds_day h.days d) (row_is d r) (days_are d r);
+      size = omega arith;
+    }
+
+    -- no hit, where there is no day
+    pub AreHits-none : (other : R) (other_days : List Range) → OnNoDay (is_hit glued holds (at row) (at other) days other_days) → AreHits glued holds at row days ((other, other_days) ∷ []) []
+    AreHits-none other other_days none = record {
+      law = λ d r.
+          joined-one glued (λ x y. holds d (glued x y)) (at row d) (at other d) (glued (at row d) (at other d)) (holds_day days d) (holds_day other_days d) false refl (sym (none d r));
+      size = omega arith;
+    }
+
+module _ {R F K : Type 0} (at : R → ℤ → F) (d : ℤ) where
+  -- a test of the rows of a day of those that pass is another test of all of them, which holds where both hold
+  filter-lent : (pass : KeyedRow R K → Bool) (p q : F → Bool) (rows : List (KeyedRow R K)) → All (λ s. q (at s.row.now d) ≡ (pass s && p (at s.row.now d))) rows
+      → filter p (present at (lent (filter pass rows)) d) ≡ filter q (present at (lent rows) d)
+  filter-lent pass p q [] h = refl
+  filter-lent pass p q (s ∷ rows) h =
+      first (pass s) (All-head (λ o. q (at o.row.now d) ≡ (pass o && p (at o.row.now d))) s rows h)
+      (filter-lent pass p q rows (All-tail (λ o. q (at o.row.now d) ≡ (pass o && p (at o.row.now d))) s rows h))
+    where
+      kept : List F
+      kept = present at (lent (filter pass rows)) d
+
+      all : List F
+      all = present at (lent rows) d
+
+      passes : (here : Bool) → q (at s.row.now d) ≡ p (at s.row.now d) → filter p kept ≡ filter q all
+          → filter p (if here then at s.row.now d ∷ kept else kept) ≡ filter q (if here then at s.row.now d ∷ all else all)
+      passes true e rest = ap₂ (λ b ys. if b then at s.row.now d ∷ ys else ys) (sym e) rest
+      passes false e rest = rest
+
+      fails : (here : Bool) → q (at s.row.now d) ≡ false → filter p kept ≡ filter q all → filter p kept ≡ filter q (if here then at s.row.now d ∷ all else all)
+      fails true e rest = rest ∙ ap (λ b. if b then at s.row.now d ∷ filter q all else filter q all) (sym e)
+      fails false e rest = rest
+
+      first : (b : Bool) → q (at s.row.now d) ≡ (b && p (at s.row.now d)) → filter p kept ≡ filter q all
+          → filter p (present at (lent (if b then s ∷ filter pass rows else filter pass rows)) d) ≡ filter q (if holds_day s.days.now d then at s.row.now d ∷ all else all)
+      first true e rest = passes (holds_day s.days.now d) e rest
+      first false e rest = fails (holds_day s.days.now d) e rest
+
+  -- at most one row joined to those of the others that have its key, is joined to all of them by keys that are equal
+  joined-keyed : {cmp : K → K → Ordering} → IsTotalOrder cmp → (glued : F → F → F) (meets : F → F → Bool) (left_of right_of : F → K) (key : K) (x : F) (h : Bool) (rows : List (KeyedRow R K))
+      → IsRefDay d → left_of x ≡ key → HaveDayKeys at right_of rows
+      → joined glued meets (if h then x ∷ [] else []) (present at (lent (filter (λ s. eq_by_cmp cmp s.key key) rows)) d)
+      ≡ joined glued (λ y z. eq_by_cmp cmp (left_of y) (right_of z) && meets y z) (if h then x ∷ [] else []) (present at (lent rows) d)
+  joined-keyed {cmp} total glued meets left_of right_of key x true rows r is keys =
+      ap (λ ys. map (glued x) ys ++ [])
+      (filter-lent (λ s. eq_by_cmp cmp s.key key) (meets x) (λ z. eq_by_cmp cmp (left_of x) (right_of z) && meets x z) rows
+      (λ i e l. ap (λ b. b && meets x (at (get_or rows i e).row.now d)) (ap₂ (eq_by_cmp cmp) is (keys i e l d r) ∙ ties_turned total key (get_or rows i e).key)))
+  joined-keyed total glued meets left_of right_of key x false rows r is keys = refl
+
+  -- one more left row with those of the others that have its key
+  pub joined_same_key-more : {cmp : K → K → Ordering} → IsTotalOrder cmp → (glued : F → F → F) (meets : F → F → Bool) (left_of right_of : F → K) (left : List (R × List Range)) (rows : List (KeyedRow R K))
+      (old new : List (SameKey R K)) (i : ℕ) (s : SameKey R K) (key : K) → i < length left → new ≡ old ++ s ∷ []
+      → ((p : R × List Range) → s.row.now ≡ (get_or left i p).0) → ((p : R × List Range) → s.days.now ≡ (get_or left i p).1)
+      → s.others.now ≡ filter (λ o. eq_by_cmp cmp o.key key) rows → IsRefDay d → left_of (at s.row.now d) ≡ key → HaveDayKeys at right_of rows
+      → joined_same_key at glued meets old d ≡ joined glued (λ y z. eq_by_cmp cmp (left_of y) (right_of z) && meets y z) (present at (take i left) d) (present at (lent rows) d)
+      → joined_same_key at glued meets new d ≡ joined glued (λ y z. eq_by_cmp cmp (left_of y) (right_of z) && meets y z) (present at (take (i + 1) left) d) (present at (lent rows) d)
+  joined_same_key-more {cmp} total glued meets left_of right_of left rows old new i s key l e row_is days_is others_are r is keys before =
+      let both : F → F → Bool = λ y z. eq_by_cmp cmp (left_of y) (right_of z) && meets y z in
+      let here : List F = present at ((s.row.now, s.days.now) ∷ []) d in
+      let right : List F = present at (lent rows) d in
+      let of_one : SameKey R K → List F = λ t. joined glued meets (present at ((t.row.now, t.days.now) ∷ []) d) (present at (lent t.others.now) d) in
+      ap (λ lefts. joined_same_key at glued meets lefts d) e
+      ∙ flat_map-append of_one old (s ∷ [])
+      ∙ ap₂ (λ us vs. us ++ vs) before
+      (append-nil (of_one s)
+      ∙ ap (λ others. joined glued meets here (present at (lent others) d)) others_are
+      ∙ joined-keyed total glued meets left_of right_of key (at s.row.now d) (holds_day s.days.now d) rows r is keys)
+      ∙ sym (joined-append glued both (present at (take i left) d) here right)
+      ∙ ap (λ xs. joined glued both xs right) (sym (present-more at left i (s.row.now, s.days.now) d l (at_place left i s.row.now s.days.now row_is days_is)))
+
+-- one more left row
+pub size_more : {X : Type 0} (old new : List X) (x : X) (i : ℕ) → new ≡ old ++ x ∷ [] → length old ≡ i → length new ≡ i + 1
+size_more old new x i e h = ap length e ∙ length-append old (x ∷ []) ∙ ap (λ n. n + 1) h
+
+-- those that have a key are at most all
+pub most_of_key : {X : Type 0} (pass : X → Bool) (some all : List X) → some ≡ filter pass all → length some ≤ length all
+most_of_key pass some all e = subst (λ xs. length xs ≤ length all) (sym e) (length-filter_le pass all)
+
+-- of lefts each of which makes at most so many hits, there are at most the product
+pub length-made : {T X : Type 0} (gives : T → List X → Type 0) (most : T → ℕ) (n : ℕ) → ((t : T) (made : List X) → gives t made → length made ≤ most t)
+    → (ts : List T) (made : List X) → All (λ t. most t ≤ n) ts → MadeOfEach gives ts made → length made ≤ length ts * n
+length-made gives most n each [] made all h = subst (λ xs. length xs ≤ 0 * n) (sym h) (grind arith)
+length-made gives most n each (t ∷ ts) made all h =
+    let first = each t h.0 h.2 in
+    let here = All-head (λ u. most u ≤ n) t ts all in
+    let rest = length-made gives most n each ts h.1 (All-tail (λ u. most u ≤ n) t ts all) h.3 in
+    product_more (length made) (length h.0) (length h.1) (most t) (length ts) n (ap length h.4 ∙ length-append h.0 h.1) first here rest
+  where
+    product_more : (whole first rest bound count n : ℕ) → whole ≡ first + rest → first ≤ bound → bound ≤ n → rest ≤ count * n → whole ≤ suc count * n
+    product_more whole first rest bound count n e f b r = grind (arith, e, f, b, r)
+
+module _ {R F K : Type 0} (at : R → ℤ → F) (glued : F → F → F) (holds : ℤ → F → Bool) (lefts : List (SameKey R K)) (hits : List (Hit R))
+    (made : MadeOfEach (λ s h. AreHits glued holds at s.row.now s.days.now (lent s.others.now) h) lefts hits) where
+  -- the rows of a day of all hits that are made
+  present-made : (d : ℤ) → IsRefDay d → present at (stored_hits hits) d ≡ joined_same_key at glued (λ x y. holds d (glued x y)) lefts d
+  present-made d r =
+      MadeOfEach-shown (λ s h. AreHits glued holds at s.row.now s.days.now (lent s.others.now) h) (λ h. present at (stored_hits h) d)
+      (λ s. joined glued (λ x y. holds d (glued x y)) (present at ((s.row.now, s.days.now) ∷ []) d) (present at (lent s.others.now) d))
+      refl (present-hits at d) (λ s h k. k.law d r) lefts hits made
+
+  -- they are what is joined of the relations by keys that are equal, where the others are the rows of the right in some order
+  pub made_law : {cmp : F → F → Ordering} → IsExactOrder cmp → (same_keys : F → F → Bool) (left right rel : List (R × List Range)) (others : List F) (d : ℤ) → IsRefDay d → rel ≡ stored_hits hits
+      → ((t : F → Bool) → list_any t others ≡ list_any t (present at right d))
+      → joined_same_key at glued (λ x y. holds d (glued x y)) lefts d ≡ joined glued (λ x y. same_keys x y && holds d (glued x y)) (present at left d) others
+      → relation_at cmp at rel d ≡ set_of cmp (joined glued (λ x y. same_keys x y && holds d (glued x y)) (relation_at cmp at left d) (relation_at cmp at right d))
+  made_law {cmp} o same_keys left right rel others d r is same tried =
+      ap (λ rows. relation_at cmp at rows d) is
+      ∙ ap (set_of cmp) (present-made d r ∙ tried)
+      ∙ set_of-joined glued (λ x y. same_keys x y && holds d (glued x y)) o (present at left d) others (present at right d) same
+
+  -- there are at most as many as pairs of rows
+  pub made_size : (rel : List (R × List Range)) (n m : ℕ) → rel ≡ stored_hits hits → length lefts ≡ n → All (λ s. length s.others.now ≤ m) lefts → length rel ≤ n * m
+  made_size rel n m is count most =
+      let rows = length-stored_hits hits in
+      let whole = length-made (λ s h. AreHits glued holds at s.row.now s.days.now (lent s.others.now) h) (λ s. length s.others.now) m (λ s h k. lent_size s h k.size) lefts hits most made in
+      subst (λ k. length rel ≤ k * m) count (subst (λ xs. length xs ≤ length lefts * m) (sym is) (omega (arith, rows, whole)))
+    where
+      lent_size : (s : SameKey R K) (h : List (Hit R)) → length h ≤ length (lent s.others.now) → length h ≤ length s.others.now
+      lent_size s h l = subst (λ k. length h ≤ k) (length-map s.others.now (λ q. (q.row.now, q.days.now))) l

@@ -1,0 +1,91 @@
+-- What is made of two rows that are tried, and of all pairs of places that are.
+use Rattle.std.proofs.Common.{◌≡◌, ◌<◌, ◌≤◌, ◌++◌, ◌&&◌, ◌||◌, ℕ, ℤ, Bool, true, false, List, [], ◌∷◌, length, get_or, if◌then◌else◌, refl, sym, ap, ap₂, ◌∙◌, arith}
+use Rattle.std.specs.List.{list_any}
+use Rattle.std.proofs.lemmas.Grind.{flat_map-append}
+use Rattle.std.proofs.lemmas.List.{append-nil, length-append}
+use Rattle.std.proofs.lemmas.List.Concat.{flat_map-cons}
+use Rattle.std.proofs.lemmas.List.Folds.{list_any-append}
+use Rattle.og_base.specs.Calendar.{IsRefDay}
+use Rattle.og_base.specs.Ranges.{Range, holds_day}
+use Rattle.og_base.specs.declared.comparison.Outer.{Outer}
+use Rattle.og_ops.specs.declared.pair.Hit.{Hit}
+use Rattle.og_ops.specs.Days.{is_hit}
+use Rattle.og_ops.proofs.RowLemmas.{length-stored}
+use Rattle.og_par.specs.Phase.{MadeOfEach}
+use Rattle.og_rel.specs.Relations.{present, stored}
+use Rattle.og_rel.proofs.PresentLemmas.{present-append, present-stored}
+use Rattle.og_join.specs.Hits.{stored_hits}
+use Rattle.og_join.specs.Places.{is_at}
+use Rattle.og_join.specs.Tried.{do_meet, rows_meet, IsMadeOf}
+use Rattle.og_join.proofs.PlaceTests.{at_both-get}
+
+-- hits one after the other
+stored_hits-append : {R : Type 0} (a b : List (Hit R)) → stored_hits (a ++ b) ≡ stored_hits a ++ stored_hits b
+stored_hits-append a b = flat_map-append (λ h. stored h.row h.days) a b
+
+-- at most one row for each hit
+pub length-stored_hits : {R : Type 0} (hits : List (Hit R)) → length (stored_hits hits) ≤ length hits
+length-stored_hits [] = omega arith
+length-stored_hits (h ∷ hits) =
+    let all = ap length (flat_map-cons (λ k. stored k.row k.days) h hits) ∙ length-append (stored h.row h.days) (stored_hits hits) in
+    omega (arith, all, length-stored h.row h.days, length-stored_hits hits)
+
+module _ {R F : Type 0} (at : R → ℤ → F) where
+  -- a test of the row of a hit, on its days
+  pub any_hit : (h : Hit R) (t : F → Bool) (d : ℤ) (met : Bool) (x : F) → holds_day h.days d ≡ met → at h.row d ≡ x → list_any t (present at (stored_hits (h ∷ [])) d) ≡ (met && t x)
+  any_hit h t d met x days row =
+      ap (λ rel. list_any t (present at rel d)) (flat_map-cons (λ k. stored k.row k.days) h [] ∙ append-nil (stored h.row h.days))
+      ∙ ap (list_any t) (present-stored at h.row h.days d)
+      ∙ one (holds_day h.days d) ∙ ap₂ (λ m y. m && t y) days row
+    where
+      or_false : (b : Bool) → (b || false) ≡ b
+      or_false true = refl
+      or_false false = refl
+
+      one : (m : Bool) → list_any t (if m then at h.row d ∷ [] else []) ≡ (m && t (at h.row d))
+      one true = or_false (t (at h.row d))
+      one false = refl
+
+  -- a test of the rows of all that was made
+  any_made : (meet : ℕ × ℕ → (F → Bool) → ℤ → Bool) (places : List (ℕ × ℕ)) (hits : List (Hit R)) → MadeOfEach (λ p made. IsMadeOf at (meet p) made) places hits
+      → (t : F → Bool) (d : ℤ) → IsRefDay d → list_any t (present at (stored_hits hits) d) ≡ list_any (λ p. meet p t d) places
+  any_made meet [] hits m t d r = ap (λ all. list_any t (present at (stored_hits all) d)) m
+  any_made meet (p ∷ places) hits m t d r =
+      ap (λ rel. list_any t (present at rel d)) (ap stored_hits m.4 ∙ stored_hits-append m.0 m.1)
+      ∙ ap (list_any t) (present-append at (stored_hits m.0) (stored_hits m.1) d)
+      ∙ list_any-append t (present at (stored_hits m.0) d) (present at (stored_hits m.1) d)
+      ∙ ap₂ (λ a b. a || b) (m.2.1 t d r) (any_made meet places m.1 m.3 t d r)
+
+  -- a test of the relation of all that was made
+  pub any_relation : (meet : ℕ × ℕ → (F → Bool) → ℤ → Bool) (places given : List (ℕ × ℕ)) (hits : List (Hit R)) (made : List (R × List Range)) → made ≡ stored_hits hits → given ≡ places
+      → MadeOfEach (λ p all. IsMadeOf at (meet p) all) given hits → (t : F → Bool) (d : ℤ) → IsRefDay d → list_any t (present at made d) ≡ list_any (λ p. meet p t d) places
+  any_relation meet places given hits made e is m t d r =
+      ap (λ rel. list_any t (present at rel d)) e ∙ any_made meet given hits m t d r ∙ ap (list_any (λ p. meet p t d)) is
+
+  -- at most one row is made of each pair of places
+  pub length-made : (meet : ℕ × ℕ → (F → Bool) → ℤ → Bool) (places : List (ℕ × ℕ)) (hits : List (Hit R)) → MadeOfEach (λ p made. IsMadeOf at (meet p) made) places hits → length hits ≤ length places
+  length-made meet [] hits m = omega (arith, ap length m)
+  length-made meet (p ∷ places) hits m =
+      omega (arith, ap length m.4 ∙ length-append m.0 m.1, m.2.0, length-made meet places m.1 m.3)
+
+module _ {R F : Type 0} (glued : F → F → F) (at : R → ℤ → F) (holds : ℤ → F → Bool) (left right : List (R × List Range)) (m n : ℕ) (p q : R × List Range)
+    (left_place : m < length left) (right_place : n < length right) (left_is : p ≡ get_or left m p) (right_is : q ≡ get_or right n q) (t : F → Bool) (d : ℤ) where
+  -- the rows at two places meet where these two do
+  met : do_meet glued at holds t d p q ≡ rows_meet glued at holds left right m n t d
+  met = sym (at_both-get (do_meet glued at holds t d) left right m n p q left_place right_place left_is right_is)
+
+  -- where the two meet on no day, nothing is made of them
+  pub rows_meet-no_day : is_hit glued holds (at p.0) (at q.0) p.1 q.1 d ≡ false → false ≡ rows_meet glued at holds left right m n t d
+  rows_meet-no_day none = sym (ap (λ b. b && t (glued (at p.0 d) (at q.0 d))) none) ∙ met
+
+  -- a hit of the two is what is made of them
+  pub rows_meet-hit : (h : Hit R) → holds_day h.days d ≡ is_hit glued holds (at p.0) (at q.0) p.1 q.1 d → at h.row d ≡ glued (at p.0 d) (at q.0 d)
+      → list_any t (present at (stored_hits (h ∷ [])) d) ≡ rows_meet glued at holds left right m n t d
+  rows_meet-hit h days row = any_hit at h t d (is_hit glued holds (at p.0) (at q.0) p.1 q.1 d) (glued (at p.0 d) (at q.0 d)) days row ∙ met
+
+-- what is made of the rows of two spans is made of the places of the spans
+pub made_of_places : {R F : Type 0} (at : R → ℤ → F) (meet : ℕ → ℕ → (F → Bool) → ℤ → Bool) (ls rs : List Outer) (i j : ℕ) (a b : Outer) (made : List (Hit R))
+    → i < length ls → j < length rs → a ≡ get_or ls i a → b ≡ get_or rs j b → IsMadeOf at (meet a.row b.row) made
+    → IsMadeOf at (λ t d. is_at (λ x. is_at (λ y. meet x.row y.row t d) rs j) ls i) made
+made_of_places at meet ls rs i j a b made left_place right_place left_is right_is h =
+    (h.0, λ t d r. h.1 t d r ∙ sym (at_both-get (λ x y. meet x.row y.row t d) ls rs i j a b left_place right_place left_is right_is))

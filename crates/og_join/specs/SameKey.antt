@@ -1,0 +1,25 @@
+-- Left rows, each with the right rows of its key, and the hits that are made of them.
+use Rattle.std.specs.Prelude.{◌≡◌, ◌≤◌, ℤ, Bool, List, [], ◌∷◌, length}
+use Rattle.std.specs.List.{All, flat_map}
+use Rattle.og_base.specs.Calendar.{IsRefDay}
+use Rattle.og_base.specs.Ranges.{Range}
+use Rattle.og_rel.specs.Relations.{present}
+use Rattle.og_ops.specs.declared.pair.Hit.{Hit}
+use Rattle.og_ops.specs.declared.semijoins.KeyedRow.{KeyedRow}
+use Rattle.og_ops.specs.Lending.{lent}
+use Rattle.og_join.specs.Hits.{stored_hits}
+use Rattle.og_join.specs.Joined.{joined}
+use Rattle.og_join.specs.declared.same_key.SameKey.{SameKey}
+
+-- on every day each key is that of its row
+abbrev pub HaveDayKeys : {R F K : Type 0} → (R → ℤ → F) → (F → K) → List (KeyedRow R K) → Type 0
+HaveDayKeys at key_of rows = All (λ s. (d : ℤ) → IsRefDay d → key_of (at s.row.now d) ≡ s.key) rows
+
+-- on every day the row glued to each of the others for which the condition holds, and at most one hit for each
+pub record AreHits {R F : Type 0} (glued : F → F → F) (holds : ℤ → F → Bool) (at : R → ℤ → F) (row : R) (days : List Range) (others : List (R × List Range)) (made : List (Hit R)) : Type 0 where
+  pub law : (d : ℤ) → IsRefDay d → present at (stored_hits made) d ≡ joined glued (λ x y. holds d (glued x y)) (present at ((row, days) ∷ []) d) (present at others d)
+  pub size : length made ≤ length others
+
+-- the rows of a day of each left row glued to those of the others which it meets
+abbrev pub joined_same_key : {R F K : Type 0} → (R → ℤ → F) → (F → F → F) → (F → F → Bool) → List (SameKey R K) → ℤ → List F
+joined_same_key at glued meets lefts d = flat_map (λ s. joined glued meets (present at ((s.row.now, s.days.now) ∷ []) d) (present at (lent s.others.now) d)) lefts

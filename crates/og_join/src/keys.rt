@@ -1,0 +1,72 @@
+//! The join of two relations on keys.
+ghost use Rattle.std.specs.Prelude.{◌≡◌, ◌≤◌, ◌*◌, ◌&&◌, ℤ, IfOk, length};
+ghost use Rattle.std.specs.Ordering.{eq_by_cmp};
+ghost use Rattle.og_base.specs.Calendar.{IsRefDay};
+ghost use Rattle.og_base.specs.Set.{IsExact, set_of};
+ghost use Rattle.og_rel.specs.Relations.{relation_at};
+ghost use Rattle.og_join.specs.Joined.{joined};
+
+use crate::hits::relation_of;
+use crate::same_key::{TryRow, left_with_others, right_by_key};
+use og_base::{DayCond, Glue, Instant, NoMemory};
+use og_par::{Gate, par_rows};
+use og_rel::Rel;
+use std::alloc::Global;
+use std::thread::Threads;
+
+/// Keys of left and of right rows, which are the same on all days.
+pub trait Keys<R: Instant> {
+    /// A key. Its order is total.
+    type Key: Ord + Drop;
+
+    ghost left_of: { Self → R.Fixed → Self.Key };
+
+    ghost right_of: { Self → R.Fixed → Self.Key };
+
+    /// The key of the left row, on whichever day.
+    fn left(&self, alloc: Global, row: &R) -> Result<Self::Key, NoMemory>
+        ensures { IfOk result (λ k. (d : ℤ) → IsRefDay d → left_of self.now (R.meaning row.now d) ≡ k) };
+
+    /// The key of the right row, on whichever day.
+    fn right(&self, alloc: Global, row: &R) -> Result<Self::Key, NoMemory>
+        ensures { IfOk result (λ k. (d : ℤ) → IsRefDay d → right_of self.now (R.meaning row.now d) ≡ k) };
+
+    /// The order answers Equal only for two keys that contracts see as the same.
+    ghost exact: { IsExact Self.Key.cmp };
+}
+
+/// On every day the glued rows whose keys are equal and for which the condition holds. The right
+/// rows are put in the order of their keys, and each left row is tried with those that have its key;
+/// the left rows are shared out among the workers. At most the product of rows. Refused only for want
+/// of memory.
+pub fn key_join<
+    H: Threads + Sync,
+    R: Glue + Drop + Sync + Send,
+    Q: Keys<R> + Sync,
+    C: DayCond<R> + Sync,
+    G: Gate + Sync,
+>(
+    rt: &H,
+    alloc: Global,
+    workers: usize,
+    left: &Rel<R>,
+    right: &Rel<R>,
+    keys: &Q,
+    cond: &C,
+    gate: &G,
+) -> Result<Rel<R>, NoMemory>
+where
+    R::Fixed: Send,
+    Q::Key: Sync,
+    requires least { 1 ≤ workers }
+    requires most { workers ≤ 64 }
+    ensures law { IfOk result (λ r. (d : ℤ) → IsRefDay d → relation_at R.Fixed.cmp R.meaning r d
+        ≡ set_of R.Fixed.cmp (joined R.glued (λ x y. eq_by_cmp Q.Key.cmp (Q.left_of keys.now x) (Q.right_of keys.now y) && C.holds cond.now d (R.glued x y))
+        (relation_at R.Fixed.cmp R.meaning left.now d) (relation_at R.Fixed.cmp R.meaning right.now d))) }
+    ensures size { IfOk result (λ r. length r ≤ length left.now * length right.now) }
+{
+    let others = right_by_key(alloc, keys, right)?;
+    let rows = left_with_others(alloc, keys, left, others.as_slice())?;
+    let hits = par_rows(rt, alloc, workers, rows.as_slice(), &TryRow { cond }, gate)?;
+    relation_of(alloc, hits)
+}

@@ -1,0 +1,84 @@
+//! Pairs of rows that are tried, by the places of their spans.
+ghost use Rattle.std.specs.Prelude.{◌≡◌, ◌++◌, List, OnOk};
+ghost use Rattle.og_ops.specs.declared.pair.Hit.{Hit};
+ghost use Rattle.og_join.specs.Tried.{IsMadeOf, rows_meet};
+
+use og_base::{DayCond, Glue, NoMemory, Outer};
+use og_ops::{Hit, test_pair};
+use og_par::Piece;
+use og_rel::Rel;
+use std::alloc::Global;
+
+// Makes of a pair of places of spans the glued row of their rows, where it has days.
+#[derive(Drop)]
+pub(crate) struct TryPair<'a, R, C> {
+    pub(crate) left: &'a Rel<R>,
+    pub(crate) right: &'a Rel<R>,
+    pub(crate) left_spans: &'a [Outer],
+    pub(crate) right_spans: &'a [Outer],
+    pub(crate) cond: &'a C,
+}
+
+impl<'a, R: Glue + Drop, C: DayCond<R>> Piece<(usize, usize)> for TryPair<'a, R, C> {
+    ghost use Rattle.og_join.specs.Tried.{IsMadeOf, spans_meet};
+
+    type Out = Hit<R>;
+
+    ghost gives = { λ piece places made. IsMadeOf R.meaning
+        (spans_meet R.glued R.meaning (C.holds piece.cond.now) piece.left.now piece.right.now piece.left_spans.now piece.right_spans.now places) made };
+
+    fn make(
+        &self,
+        alloc: Global,
+        item: &(usize, usize),
+        out: &mut Vec<Hit<R>>,
+    ) -> Result<(), NoMemory> {
+        let (i, j) = *item;
+        let lefts = self.left_spans;
+        let rights = self.right_spans;
+        if i < lefts.len() && j < rights.len() {
+            try_rows(
+                alloc,
+                self.left,
+                lefts[i].row,
+                self.right,
+                rights[j].row,
+                self.cond,
+                out,
+            )?;
+        }
+        Ok(())
+    }
+}
+
+// Adds the glued row of the rows at two places, where it has days.
+fn try_rows<R: Glue + Drop, C: DayCond<R>>(
+    alloc: Global,
+    left: &Rel<R>,
+    m: usize,
+    right: &Rel<R>,
+    n: usize,
+    cond: &C,
+    out: &mut Vec<Hit<R>>,
+) -> Result<(), NoMemory>
+    ensures { OnOk result ((made : List (Hit R)) × IsMadeOf R.meaning (rows_meet R.glued R.meaning (C.holds cond.now) left.now right.now m n) made
+        × (out.new.items ≡ out.old.items ++ made)) }
+{
+    if m >= left.len() || n >= right.len() {
+        return Ok(());
+    }
+    match test_pair(
+        alloc,
+        left.row(m),
+        left.days(m),
+        right.row(n),
+        right.days(n),
+        cond,
+    )? {
+        Some(hit) => {
+            out.push(hit)?;
+            Ok(())
+        }
+        None => Ok(()),
+    }
+}
