@@ -1,0 +1,3 @@
+pub mod PartEquations
+pub mod TextLemmas
+pub mod TreeLemmas

@@ -1,0 +1,158 @@
+-- The equations of the folds over expressions and conditions that plans need, one for each variant.
+use Rattle.std.proofs.Common.{◌≡◌, ℕ, List, [], ◌∷◌, map, refl, ap, sym, subst, ◌∙◌}
+use Rattle.std.specs.List.{AllByRecursion, flat_map}
+use Rattle.std.proofs.lemmas.List.Folds.{flat_map-map}
+use Rattle.og_value.specs.declared.term.Cmp.{Cmp}
+use Rattle.og_value.specs.declared.term.Func.{Func}
+use Rattle.og_value.specs.declared.term.Pred.{Pred}
+use Rattle.og_value.specs.declared.value.Value.{Value}
+use Rattle.og_query.specs.declared.expression.Expr.{Expr, fold-Expr, fold-roll-Expr}
+use Rattle.og_query.specs.declared.expression.Expr.TheVariants.{Column, Lit, Call, rolls-Column, rolls-Lit, rolls-Call}
+use Rattle.og_query.specs.declared.expression.Expr.TheOpen as e
+use Rattle.og_query.specs.declared.condition.Cond.{Cond, fold-Cond, fold-roll-Cond, ind-Cond, map-Cond, roll-Cond}
+use Rattle.og_query.specs.declared.condition.Cond.TheVariants.{And, Or, Not, Compare, Relate, Empty, Contains, rolls-And, rolls-Or, rolls-Not, rolls-Compare, rolls-Relate, rolls-Empty, rolls-Contains}
+use Rattle.og_query.specs.declared.condition.Cond.TheOpen as c
+use Rattle.og_plan.specs.Parts.{parted_step, parts_of, expr_places_step, expr_places, places_step, places_of}
+
+-- what holds of each of some things with a proof beside them
+each_of : {A : Type 0} (P : A → Type 0) (xs : List ((x : A) × P x)) → AllByRecursion P (map (λ e. e.0) xs)
+each_of P [] = tt
+each_of P (x ∷ xs) = (x.1, each_of P xs)
+
+-- induction over conditions: what holds of each that has no condition in it, and of each of whose conditions it holds, holds of all
+induction-Cond : (P : Cond → Type 0)
+    → ((conds : List Cond) → AllByRecursion P conds → P (And conds)) → ((conds : List Cond) → AllByRecursion P conds → P (Or conds)) → ((cond : Cond) → P cond → P (Not cond))
+    → ((op : Cmp) (left right : Expr) → P (Compare op left right)) → ((pred : Pred) (left right : Expr) → P (Relate pred left right))
+    → ((period : Expr) → P (Empty period)) → ((period day : Expr) → P (Contains period day)) → (cond : Cond) → P cond
+induction-Cond P and or not compare relate empty contains = ind-Cond P (λ x y is. subst (λ z. P (roll-Cond z)) is (at y))
+  where
+    at : (y : c.Cond-F ((cond : Cond) × P cond)) → P (roll-Cond (map-Cond ((cond : Cond) × P cond) Cond (λ x. x.0) y))
+    at (c.And conds) = subst P (sym (rolls-And (map (λ x. x.0) conds))) (and (map (λ x. x.0) conds) (each_of P conds))
+    at (c.Or conds) = subst P (sym (rolls-Or (map (λ x. x.0) conds))) (or (map (λ x. x.0) conds) (each_of P conds))
+    at (c.Not cond) = subst P (sym (rolls-Not cond.0)) (not cond.0 cond.1)
+    at (c.Compare op left right) = subst P (sym (rolls-Compare op left right)) (compare op left right)
+    at (c.Relate pred left right) = subst P (sym (rolls-Relate pred left right)) (relate pred left right)
+    at (c.Empty period) = subst P (sym (rolls-Empty period)) (empty period)
+    at (c.Contains period day) = subst P (sym (rolls-Contains period day)) (contains period day)
+
+-- a fold over expressions
+module _ {A : Type 0} (step : e.Expr-F A → A) where
+  -- of a column
+  fold-Column : (place : ℕ) → fold-Expr A step (Column place) ≡ step (e.Column place)
+  fold-Column place = ap (fold-Expr A step) (sym (rolls-Column place)) ∙ fold-roll-Expr A step (e.Column place)
+
+  -- of a literal
+  fold-Lit : (value : Value) → fold-Expr A step (Lit value) ≡ step (e.Lit value)
+  fold-Lit value = ap (fold-Expr A step) (sym (rolls-Lit value)) ∙ fold-roll-Expr A step (e.Lit value)
+
+  -- of a call
+  fold-Call : (func : Func) (args : List Expr) → fold-Expr A step (Call func args) ≡ step (e.Call func (map (fold-Expr A step) args))
+  fold-Call func args = ap (fold-Expr A step) (sym (rolls-Call func args)) ∙ fold-roll-Expr A step (e.Call func args)
+
+-- a fold over conditions
+module _ {A : Type 0} (step : c.Cond-F A → A) where
+  -- of AND
+  fold-And : (conds : List Cond) → fold-Cond A step (And conds) ≡ step (c.And (map (fold-Cond A step) conds))
+  fold-And conds = ap (fold-Cond A step) (sym (rolls-And conds)) ∙ fold-roll-Cond A step (c.And conds)
+
+  -- of OR
+  fold-Or : (conds : List Cond) → fold-Cond A step (Or conds) ≡ step (c.Or (map (fold-Cond A step) conds))
+  fold-Or conds = ap (fold-Cond A step) (sym (rolls-Or conds)) ∙ fold-roll-Cond A step (c.Or conds)
+
+  -- of NOT
+  fold-Not : (cond : Cond) → fold-Cond A step (Not cond) ≡ step (c.Not (fold-Cond A step cond))
+  fold-Not cond = ap (fold-Cond A step) (sym (rolls-Not cond)) ∙ fold-roll-Cond A step (c.Not cond)
+
+  -- of a comparison
+  fold-Compare : (op : Cmp) (left right : Expr) → fold-Cond A step (Compare op left right) ≡ step (c.Compare op left right)
+  fold-Compare op left right = ap (fold-Cond A step) (sym (rolls-Compare op left right)) ∙ fold-roll-Cond A step (c.Compare op left right)
+
+  -- of a predicate
+  fold-Relate : (pred : Pred) (left right : Expr) → fold-Cond A step (Relate pred left right) ≡ step (c.Relate pred left right)
+  fold-Relate pred left right = ap (fold-Cond A step) (sym (rolls-Relate pred left right)) ∙ fold-roll-Cond A step (c.Relate pred left right)
+
+  -- of EMPTY
+  fold-Empty : (period : Expr) → fold-Cond A step (Empty period) ≡ step (c.Empty period)
+  fold-Empty period = ap (fold-Cond A step) (sym (rolls-Empty period)) ∙ fold-roll-Cond A step (c.Empty period)
+
+  -- of CONTAINS
+  fold-Contains : (period day : Expr) → fold-Cond A step (Contains period day) ≡ step (c.Contains period day)
+  fold-Contains period day = ap (fold-Cond A step) (sym (rolls-Contains period day)) ∙ fold-roll-Cond A step (c.Contains period day)
+
+-- a condition with its parts
+abbrev parted : Cond → Cond × List Cond
+parted = fold-Cond (Cond × List Cond) parted_step
+
+-- conditions that stand beside their parts are those that were taken apart
+all_themselves : (conds : List Cond) → AllByRecursion (λ cond. (parted cond).0 ≡ cond) conds → map (λ c. c.0) (map parted conds) ≡ conds
+all_themselves [] each = refl
+all_themselves (cond ∷ conds) each = λ i. each.0 i ∷ all_themselves conds each.1 i
+
+-- what stands beside the parts is the condition itself
+parted_itself : (cond : Cond) → (parted cond).0 ≡ cond
+parted_itself =
+    induction-Cond (λ cond. (parted cond).0 ≡ cond)
+    (λ conds each. ap (λ c. c.0) (fold-And parted_step conds) ∙ ap And (all_themselves conds each))
+    (λ conds each. ap (λ c. c.0) (fold-Or parted_step conds) ∙ ap Or (all_themselves conds each))
+    (λ cond itself. ap (λ c. c.0) (fold-Not parted_step cond) ∙ ap Not itself)
+    (λ op left right. ap (λ c. c.0) (fold-Compare parted_step op left right))
+    (λ pred left right. ap (λ c. c.0) (fold-Relate parted_step pred left right))
+    (λ period. ap (λ c. c.0) (fold-Empty parted_step period))
+    (λ period day. ap (λ c. c.0) (fold-Contains parted_step period day))
+
+-- all conditions stand beside their parts
+all_beside : (conds : List Cond) → map (λ c. c.0) (map parted conds) ≡ conds
+all_beside [] = refl
+all_beside (cond ∷ conds) = λ i. parted_itself cond i ∷ all_beside conds i
+
+-- the parts of AND
+pub parts_of-And : (conds : List Cond) → parts_of (And conds) ≡ flat_map parts_of conds
+parts_of-And conds = ap (λ c. c.1) (fold-And parted_step conds) ∙ flat_map-map (λ c. c.1) parted conds
+
+-- of OR
+parts_of-Or : (conds : List Cond) → parts_of (Or conds) ≡ Or conds ∷ []
+parts_of-Or conds = ap (λ c. c.1) (fold-Or parted_step conds) ∙ ap (λ cs. Or cs ∷ []) (all_beside conds)
+
+-- of NOT
+parts_of-Not : (cond : Cond) → parts_of (Not cond) ≡ Not cond ∷ []
+parts_of-Not cond = ap (λ c. c.1) (fold-Not parted_step cond) ∙ ap (λ c. Not c ∷ []) (parted_itself cond)
+
+-- of a comparison
+parts_of-Compare : (op : Cmp) (left right : Expr) → parts_of (Compare op left right) ≡ Compare op left right ∷ []
+parts_of-Compare op left right = ap (λ c. c.1) (fold-Compare parted_step op left right)
+
+-- of a predicate
+parts_of-Relate : (pred : Pred) (left right : Expr) → parts_of (Relate pred left right) ≡ Relate pred left right ∷ []
+parts_of-Relate pred left right = ap (λ c. c.1) (fold-Relate parted_step pred left right)
+
+-- of EMPTY
+parts_of-Empty : (period : Expr) → parts_of (Empty period) ≡ Empty period ∷ []
+parts_of-Empty period = ap (λ c. c.1) (fold-Empty parted_step period)
+
+-- of CONTAINS
+parts_of-Contains : (period day : Expr) → parts_of (Contains period day) ≡ Contains period day ∷ []
+parts_of-Contains period day = ap (λ c. c.1) (fold-Contains parted_step period day)
+
+-- the parts of a condition that is no AND: itself alone
+pub parts_of-other : (cond : Cond) → ((conds : List Cond) → ¬ (cond ≡ And conds)) → parts_of cond ≡ cond ∷ []
+parts_of-other =
+    induction-Cond (λ cond. ((conds : List Cond) → ¬ (cond ≡ And conds)) → parts_of cond ≡ cond ∷ [])
+    (λ conds each other. absurd (other conds refl))
+    (λ conds each other. parts_of-Or conds)
+    (λ cond itself other. parts_of-Not cond)
+    (λ op left right other. parts_of-Compare op left right)
+    (λ pred left right other. parts_of-Relate pred left right)
+    (λ period other. parts_of-Empty period)
+    (λ period day other. parts_of-Contains period day)
+
+-- the places of a call
+pub expr_places-Call : (func : Func) (args : List Expr) → expr_places (Call func args) ≡ flat_map expr_places args
+expr_places-Call func args = fold-Call expr_places_step func args ∙ flat_map-map (λ places. places) expr_places args
+
+-- the places of AND
+pub places_of-And : (conds : List Cond) → places_of (And conds) ≡ flat_map places_of conds
+places_of-And conds = fold-And places_step conds ∙ flat_map-map (λ places. places) places_of conds
+
+-- of OR
+pub places_of-Or : (conds : List Cond) → places_of (Or conds) ≡ flat_map places_of conds
+places_of-Or conds = fold-Or places_step conds ∙ flat_map-map (λ places. places) places_of conds

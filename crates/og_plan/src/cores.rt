@@ -1,0 +1,186 @@
+//! The plan of a query: a function of its text alone.
+ghost use Rattle.std.specs.Prelude.{◌≡◌, ◌++◌, ◌+◌, ◌≤◌, IfOk, OnOk, fold, length};
+ghost use Rattle.std.specs.List.{flat_map};
+ghost use Rattle.og_query.specs.Kinds.{kinds_of};
+ghost use Rattle.og_plan.specs.Parts as parts;
+ghost use Rattle.og_plan.specs.Joins as joins;
+ghost use Rattle.og_plan.specs.Homes as homes;
+ghost use Rattle.og_plan.specs.PlanOf as spec;
+ghost use Rattle.og_plan.specs.PlanOf.{HaveTables};
+ghost use Rattle.og_plan.specs.declared.plan.Home.TheVariants as home;
+ghost use Rattle.og_plan.specs.declared.plan.Plan.TheVariants as plans;
+
+use crate::homes::parts_at;
+use crate::joins::{filtered, joined_by};
+use crate::parts::{all_from, parts_of};
+use crate::plan::{Home, Plan};
+use og_base::NoMemory;
+use og_query::{Cond, Core, Expr, From1, Query, Semi};
+use og_value::{Kind, Schema};
+use sqlite_items::{Boxed, Items};
+use std::alloc::Global;
+
+// How many columns each table has.
+fn widths_of(alloc: Global, tables: &[From1]) -> Result<Vec<usize>, NoMemory>
+    ensures { IfOk result (λ widths. widths.items ≡ spec.widths_of tables.now) }
+{
+    let mut widths = Vec::with_capacity(alloc, tables.len())?;
+    'tables: for table in tables {
+        widths.push(table.schema.len())?;
+    }
+    Ok(widths)
+}
+
+// Appends the kinds of the columns.
+fn add_kinds(schema: &Schema, kinds: &mut Vec<Kind>) -> Result<(), NoMemory>
+    ensures { OnOk result (kinds.new.items ≡ kinds.old.items ++ kinds_of schema.now) }
+{
+    'columns: for i in 0..schema.len() {
+        kinds.push(schema.column(i).kind)?;
+    }
+    Ok(())
+}
+
+// The kinds of the tables' columns, one table after the other.
+fn kinds_in(alloc: Global, tables: &[From1]) -> Result<Vec<Kind>, NoMemory>
+    ensures { IfOk result (λ kinds. kinds.items ≡ flat_map (λ table. kinds_of table.schema) tables.now) }
+{
+    let mut kinds = Vec::new(alloc);
+    'tables: for table in tables {
+        add_kinds(&table.schema, &mut kinds)?;
+    }
+    Ok(kinds)
+}
+
+// Leaf k: the scan of a table whose columns begin at that place, under one filter with its parts.
+fn leaf_of(
+    alloc: Global,
+    widths: &[usize],
+    parts: &[Cond],
+    k: usize,
+    start: usize,
+    table: &From1,
+) -> Result<Plan, NoMemory>
+    ensures { IfOk result (λ p. p ≡ spec.leaf_of widths.now parts.now k start table.now) }
+{
+    let here = parts_at(alloc, widths, Home::Leaf(k), parts)?;
+    let scan = Plan::Scan {
+        name: table.name.copy()?,
+        schema: table.schema.copy()?,
+    };
+    filtered(alloc, scan, all_from(alloc, start, &here)?)
+}
+
+// The tree of the items before item k, joined with leaf k.
+fn joined_with(
+    alloc: Global,
+    kinds: &[Kind],
+    widths: &[usize],
+    parts: &[Cond],
+    k: usize,
+    start: usize,
+    tree: Plan,
+    table: &From1,
+) -> Result<Plan, NoMemory>
+    ensures { IfOk result (λ p. p ≡ joins.joined_by kinds.now start tree (spec.leaf_of widths.now parts.now k start table.now) (homes.parts_at widths.now (home.Join k) parts.now)) }
+{
+    let leaf = leaf_of(alloc, widths, parts, k, start, table)?;
+    let here = parts_at(alloc, widths, Home::Join(k), parts)?;
+    joined_by(alloc, kinds, start, tree, leaf, here)
+}
+
+// The tree of all items, of which there is at least one.
+fn tree_of(
+    alloc: Global,
+    kinds: &[Kind],
+    widths: &[usize],
+    parts: &[Cond],
+    tables: &[From1],
+) -> Result<Plan, NoMemory>
+    requires some { 1 ≤ length tables.now }
+    requires kinds { kinds.now ≡ flat_map (λ table. kinds_of table.schema) tables.now }
+    ensures { IfOk result (λ p. p ≡ spec.tree_of kinds.now widths.now parts.now tables.now) }
+{
+    let mut tree = leaf_of(alloc, widths, parts, 0, 0, &tables[0])?;
+    let mut start = tables[0].schema.len();
+    'tables: for k in 1..tables.len() {
+        tree = joined_with(alloc, kinds, widths, parts, k, start, tree, &tables[k])?;
+        start += tables[k].schema.len();
+    }
+    Ok(tree)
+}
+
+// The tree under a node for each semi, the first lowest.
+fn under_semis(alloc: Global, tree: Plan, semis: &[Semi]) -> Result<Plan, NoMemory>
+    ensures { IfOk result (λ p. p ≡ fold (λ tree semi. plans.Semi tree semi.positive semi.table (parts.parts_of semi.cond)) tree semis.now) }
+{
+    let mut under = tree;
+    'semis: for semi in semis {
+        under = Plan::Semi {
+            input: Boxed::new(alloc, under)?,
+            positive: semi.positive,
+            table: semi.table.copy()?,
+            parts: parts_of(alloc, &semi.cond)?,
+        };
+    }
+    Ok(under)
+}
+
+// The same expressions once more.
+fn copied(alloc: Global, items: &Items<Expr>) -> Result<Items<Expr>, NoMemory>
+    ensures { IfOk result (λ es. es ≡ items.now) }
+{
+    let mut copies = Items::new(alloc);
+    'items: for item in items.as_slice() {
+        copies.push(item.copy(alloc)?)?;
+    }
+    Ok(copies)
+}
+
+// The tree under the projection to the items.
+fn projected(alloc: Global, tree: Plan, items: &Items<Expr>) -> Result<Plan, NoMemory>
+    ensures { IfOk result (λ p. p ≡ plans.Project tree items.now) }
+{
+    Ok(Plan::Project {
+        input: Boxed::new(alloc, tree)?,
+        items: copied(alloc, items)?,
+    })
+}
+
+// A core: its tree, under a node for each semi, under the projection to its items.
+fn core_plan(alloc: Global, core: &Core) -> Result<Plan, NoMemory>
+    requires { 1 ≤ length core.now.tables }
+    ensures { IfOk result (λ p. p ≡ spec.core_plan core.now) }
+{
+    let tables = core.tables.as_slice();
+    let kinds = kinds_in(alloc, tables)?;
+    let widths = widths_of(alloc, tables)?;
+    let parts = parts_of(alloc, &core.cond)?;
+    let tree = tree_of(
+        alloc,
+        kinds.as_slice(),
+        widths.as_slice(),
+        parts.as_slice(),
+        tables,
+    )?;
+    let under = under_semis(alloc, tree, core.semis.as_slice())?;
+    projected(alloc, under, &core.items)
+}
+
+/// The plan of the query, by its text alone (docs/LANGUAGE.md, "Plans"). Refused only for want of
+/// memory.
+pub fn plan_of(alloc: Global, query: &Query) -> Result<Plan, NoMemory>
+    requires { HaveTables query.now }
+    ensures { IfOk result (λ p. p ≡ spec.plan_of query.now) }
+{
+    let mut plan = core_plan(alloc, &query.first)?;
+    'rests: for rest in query.rest.as_slice() {
+        let right = core_plan(alloc, &rest.core)?;
+        plan = Plan::Combine {
+            op: rest.op,
+            left: Boxed::new(alloc, plan)?,
+            right: Boxed::new(alloc, right)?,
+        };
+    }
+    Ok(plan)
+}

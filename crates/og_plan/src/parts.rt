@@ -1,0 +1,114 @@
+//! The parts of conditions, and conditions whose places are counted from a later one.
+ghost use Rattle.std.specs.Prelude.{◌≡◌, ◌∷◌, [], IfOk, map};
+ghost use Rattle.std.specs.List.{flat_map};
+ghost use Rattle.og_plan.specs.Parts as spec;
+
+use og_base::NoMemory;
+use og_query::{Cond, Expr};
+use sqlite_items::{Boxed, Items};
+use std::alloc::Global;
+
+// The parts of the condition: it is taken apart at every AND that no OR or NOT encloses.
+#[cycle(parts)]
+pub(crate) fn parts_of(alloc: Global, cond: &Cond) -> Result<Items<Cond>, NoMemory>
+    ensures { IfOk result (λ parts. parts ≡ spec.parts_of cond.now) }
+{
+    match cond {
+        Cond::And(conds) => all_parts(alloc, conds),
+        _ => one_part(alloc, cond),
+    }
+}
+
+// The parts of the conditions, one after the other.
+#[cycle(parts)]
+fn all_parts(alloc: Global, conds: &Items<Cond>) -> Result<Items<Cond>, NoMemory>
+    ensures { IfOk result (λ parts. parts ≡ flat_map spec.parts_of conds.now) }
+{
+    let mut all = Items::new(alloc);
+    'conds: for cond in conds.as_slice() {
+        all.append(parts_of(alloc, cond)?)?;
+    }
+    Ok(all)
+}
+
+// The condition as the one part.
+fn one_part(alloc: Global, cond: &Cond) -> Result<Items<Cond>, NoMemory>
+    ensures { IfOk result (λ parts. parts ≡ cond.now ∷ []) }
+{
+    let mut parts = Items::new(alloc);
+    parts.push(cond.copy(alloc)?)?;
+    Ok(parts)
+}
+
+// The expression with its places counted from that one.
+#[cycle(expr_from)]
+fn expr_from(alloc: Global, start: usize, expr: &Expr) -> Result<Expr, NoMemory>
+    ensures { IfOk result (λ e. e ≡ spec.expr_from start expr.now) }
+{
+    match expr {
+        Expr::Column(place) => Ok(Expr::Column(place.saturating_sub(start))),
+        Expr::Lit(value) => Ok(Expr::Lit(value.copy()?)),
+        Expr::Call { func, args } => Ok(Expr::Call {
+            func: *func,
+            args: exprs_from(alloc, start, args)?,
+        }),
+    }
+}
+
+// The expressions with their places counted from that one.
+#[cycle(expr_from)]
+fn exprs_from(alloc: Global, start: usize, exprs: &Items<Expr>) -> Result<Items<Expr>, NoMemory>
+    ensures { IfOk result (λ es. es ≡ map (spec.expr_from start) exprs.now) }
+{
+    let mut moved = Items::new(alloc);
+    'all: for expr in exprs.as_slice() {
+        moved.push(expr_from(alloc, start, expr)?)?;
+    }
+    Ok(moved)
+}
+
+// The condition with its places counted from that one.
+#[cycle(cond_from)]
+fn cond_from(alloc: Global, start: usize, cond: &Cond) -> Result<Cond, NoMemory>
+    ensures { IfOk result (λ c. c ≡ spec.cond_from start cond.now) }
+{
+    match cond {
+        Cond::And(conds) => Ok(Cond::And(all_from(alloc, start, conds)?)),
+        Cond::Or(conds) => Ok(Cond::Or(all_from(alloc, start, conds)?)),
+        Cond::Not(one) => {
+            let moved = cond_from(alloc, start, one.get())?;
+            Ok(Cond::Not(Boxed::new(alloc, moved)?))
+        }
+        Cond::Compare { op, left, right } => Ok(Cond::Compare {
+            op: *op,
+            left: expr_from(alloc, start, left)?,
+            right: expr_from(alloc, start, right)?,
+        }),
+        Cond::Relate { pred, left, right } => Ok(Cond::Relate {
+            pred: *pred,
+            left: expr_from(alloc, start, left)?,
+            right: expr_from(alloc, start, right)?,
+        }),
+        Cond::Empty(period) => Ok(Cond::Empty(expr_from(alloc, start, period)?)),
+        Cond::Contains(period, day) => Ok(Cond::Contains(
+            expr_from(alloc, start, period)?,
+            expr_from(alloc, start, day)?,
+        )),
+    }
+}
+
+// The conditions with their places counted from that one.
+#[cycle(cond_from)]
+pub(crate) fn all_from(
+    alloc: Global,
+    start: usize,
+    conds: &Items<Cond>,
+) -> Result<Items<Cond>, NoMemory>
+    ensures { IfOk result (λ cs. cs ≡ map (spec.cond_from start) conds.now) }
+{
+    let mut moved = Items::new(alloc);
+    'all: for cond in conds.as_slice() {
+        moved.push(cond_from(alloc, start, cond)?)?;
+    }
+    Ok(moved)
+}
