@@ -1,7 +1,9 @@
-//! og_bench: what sets of days, relations and scripts cost, against a plain copy, a plain sort and a
-//! plain pass.
+//! og_bench: what sets of days, relations, pairs of rows, differences and scripts cost, beside plain work
+//! of the same size.
 #![tactic(auto)]
 
+mod differences;
+mod pairs;
 mod relations;
 mod scripts;
 mod sets;
@@ -52,6 +54,8 @@ fn main(rt: HostRuntime) -> ExitCode {
             return ExitCode::from(2);
         };
         let line = match subject.as_str() {
+            "differences" => differences::line(&rt, rt.alloc(), count),
+            "pairs" => pairs::line(&rt, rt.alloc(), count),
             "sets" => sets::line(&rt, rt.alloc(), count),
             "relations" => relations::line(&rt, rt.alloc(), count),
             "scripts" => scripts::line(&rt, rt.alloc(), count),

@@ -3,9 +3,46 @@ use og_base::{NoMemory, RtSet, read_ref_day};
 use og_par::OpenGate;
 use og_rel::Rel;
 use og_time::{OngoingPoint, read_point};
-use og_value::{FixedRow, Row, Value, write_fixed};
+use og_value::{FixedRow, Kind, Row, Value, read_cell, write_fixed};
 use std::alloc::Global;
+use std::process::Abort;
 use std::test::Fail;
+
+/// The row of the cells.
+pub fn row(alloc: Global, cells: &[(Kind, &str)]) -> Result<Row, Fail> {
+    let mut values = Vec::new(alloc);
+    for (kind, text) in cells {
+        values.push(read_cell(alloc, *kind, text.as_bytes())?)?;
+    }
+    Ok(Row::of(values))
+}
+
+/// The relation of the row of the cells, on all days.
+pub fn one_row(alloc: Global, cells: &[(Kind, &str)]) -> Result<Rel<Row>, Fail> {
+    let mut rel = Rel::new(alloc);
+    rel.push(row(alloc, cells)?, RtSet::all(alloc)?)?;
+    Ok(rel)
+}
+
+/// The relation of the row of the point alone, on all days.
+pub fn point(alloc: Global, text: &str) -> Result<Rel<Row>, Fail> {
+    one_row(alloc, &[(Kind::Date, text)])
+}
+
+/// Asserts that the relation has the lines on each of the days.
+pub fn assert_listed<H: AllocGlobal + Abort>(
+    rt: &H,
+    name: &str,
+    rel: &Rel<Row>,
+    days: &[(&str, &str)],
+) -> Result<(), Fail> {
+    for (day, wanted) in days {
+        let rows = rel.at(read_ref_day(day.as_bytes())?)?;
+        let lines = lines(rt.alloc(), rows.as_slice())?;
+        assert_eq!(rt; lines.as_slice(), wanted.as_bytes(), "{name} on {day}");
+    }
+    Ok(())
+}
 
 // 4,096 rows on all days, of a number below 1,000 and the point.
 fn numbered(alloc: Global, point: OngoingPoint) -> Result<Rel<Row>, NoMemory> {
@@ -19,13 +56,15 @@ fn numbered(alloc: Global, point: OngoingPoint) -> Result<Rel<Row>, NoMemory> {
     Ok(rel)
 }
 
-// The cells of the rows, each row on a line.
+// The cells of the rows with commas between them, each row on a line.
 fn lines(alloc: Global, rows: &[FixedRow]) -> Result<Vec<u8>, NoMemory> {
     let mut out = Vec::new(alloc);
     for row in rows {
         for i in 0..row.len() {
+            if i > 0 {
+                out.push(b',')?;
+            }
             write_fixed(row.value(i), &mut out)?;
-            out.push(b',')?;
         }
         out.push(b'\n')?;
     }
@@ -36,7 +75,7 @@ fn lines(alloc: Global, rows: &[FixedRow]) -> Result<Vec<u8>, NoMemory> {
 fn wanted(alloc: Global) -> Result<String, NoMemory> {
     let mut out = String::new(alloc);
     for i in 0..1000 {
-        let line = format!(in alloc; "{i},2020-05-01,\n")?;
+        let line = format!(in alloc; "{i},2020-05-01\n")?;
         out.push_str(line.as_str())?;
     }
     Ok(out)
@@ -56,6 +95,23 @@ fn a_relation_is_one_list_for_all_numbers_of_workers(rt: HostRuntime) -> Result<
         let rows = rel.at_workers(&rt, workers, day, &OpenGate)?;
         let lines = lines(rt.alloc(), rows.as_slice())?;
         assert_eq!(rt; lines.as_slice(), wanted.as_bytes(), "{workers} workers");
+    }
+    Ok(())
+}
+
+#[test]
+fn a_row_that_stands_twice_is_listed_once(rt: HostRuntime) -> Result<(), Fail> {
+    let mut rel = point(rt.alloc(), "now")?;
+    rel.append(point(rt.alloc(), "now")?)?;
+    let copy = rel.copy()?;
+    let mut both = rel.copy()?;
+    both.append(rel.copy()?)?;
+    for (name, rel, len) in [("rows", &rel, 2), ("copy", &copy, 2), ("both", &both, 4)] {
+        assert_eq!(rt; rel.len(), len, "{name}");
+        for day in ["2020-05-01", "2020-05-02"] {
+            let line = format!(in rt.alloc(); "{day}\n")?;
+            assert_listed(&rt, name, rel, &[(day, line.as_str())])?;
+        }
     }
     Ok(())
 }

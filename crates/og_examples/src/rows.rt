@@ -120,7 +120,7 @@ mod tests {
     }
 
     // Whether the condition holds of the row on the day.
-    fn held<R: Instant, C: DayCond<R>>(
+    fn held<R: Glue + Drop, C: DayCond<R>>(
         alloc: Global,
         condition: &C,
         row: &R,
