@@ -1,6 +1,8 @@
 pub mod Boundaries
 pub mod Bytes
 pub mod Calendar
+pub mod GroupLaws
+pub mod Groups
 pub mod Letters
 pub mod Set
 pub mod SetOps

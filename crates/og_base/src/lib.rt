@@ -19,7 +19,7 @@ pub use comparison::{Envelope, Outer, Steps};
 pub use day::{ExtDay, RefDay};
 pub use memory::NoMemory;
 pub use range::{Cut, DayRange, FixedPeriod};
-pub use row::{DayCond, Glue, Grouped, Instant, OngoingRow, RowMap};
+pub use row::{DayCond, Glue, Grouped, Groups, Instant, OngoingRow, RowMap};
 pub use rt_set::{RtSet, meet_cuts};
 pub use set::rising;
 pub use set_text::{RtRefusal, read_rt, write_rt};

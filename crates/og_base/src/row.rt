@@ -1,6 +1,7 @@
 //! Rows whose value depends on the day, and what is done with such rows on every day at once.
 ghost use Rattle.std.specs.Prelude.{◌≡◌, ◌↔◌, ℤ, Bool, true, false, IfOk};
 ghost use Rattle.og_base.specs.Calendar.{IsRefDay};
+ghost use Rattle.og_base.specs.Groups.{share_group};
 ghost use Rattle.og_base.specs.Ranges.{holds_day};
 ghost use Rattle.og_base.specs.Set.{IsExact};
 
@@ -36,16 +37,34 @@ pub trait OngoingRow: Instant {
         ensures { IfOk result (λ r. r ≡ self.now) };
 }
 
-/// Rows that stand in groups: rows that are equal on some day are in one group.
+/// Two groups of rows, by their numbers. They may be one.
+#[derive(Clone, Copy, Debug, PartialEq, Eq)]
+pub struct Groups {
+    pub first: u64,
+    pub second: u64,
+}
+
+/// Rows that find by numbers those which they may be equal to. Each row stands in two groups, and
+/// seeks its equals in two.
 pub trait Grouped: OngoingRow {
-    ghost group_of: { Self → Self.Fixed };
+    ghost use Rattle.og_base.specs.declared.row.Groups.{Groups};
 
-    /// The group of the row.
-    fn group(&self, alloc: Global) -> Result<Self::Fixed, NoMemory>
-        ensures { IfOk result (λ g. g ≡ group_of self.now) };
+    /// The groups in which a row stands.
+    ghost standing: { Self → Groups };
 
-    /// Rows that are equal on some day are in one group.
-    ghost grouped: { (x y : Self) (d : ℤ) → IsRefDay d → Self.meaning x d ≡ Self.meaning y d → group_of x ≡ group_of y };
+    /// The groups in which a row seeks those that are equal to it on some day.
+    ghost seeking: { Self → Groups };
+
+    /// The groups in which the row stands. Takes no memory.
+    fn stands_in(&self) -> Groups
+        ensures { result ≡ standing self.now };
+
+    /// The groups in which the row seeks those that are equal to it on some day. Takes no memory.
+    fn seeks_in(&self) -> Groups
+        ensures { result ≡ seeking self.now };
+
+    /// A row stands in one of the groups in which a row seeks that is equal to it on some day.
+    ghost grouped: { (x y : Self) (d : ℤ) → IsRefDay d → Self.meaning x d ≡ Self.meaning y d → share_group (seeking x) (standing y) ≡ true };
 }
 
 /// Rows of which two are glued to one.

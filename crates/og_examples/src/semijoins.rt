@@ -30,7 +30,7 @@ fn kept_by_semi(alloc: Global, positive: bool) -> Result<Rel<Row>, Fail> {
     kept(alloc, &Semi { cond, positive })
 }
 
-// The same numbers by the semijoin with keys.
+// The same numbers by the semijoin of a matching.
 fn kept_by_glued(alloc: Global, positive: bool) -> Result<Rel<Row>, Fail> {
     let overlap = overlap();
     let cond = CondDays { cond: &overlap };

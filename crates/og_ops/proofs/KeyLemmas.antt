@@ -4,8 +4,7 @@ use Rattle.std.specs.Cmp.{IsTotalOrder, IsStrictWeakOrder}
 use Rattle.std.specs.List.{All, AllWithin}
 use Rattle.std.specs.List.Sorted.{IsSortedBy, IsPartitionedBy, IsPartitionPoint}
 use Rattle.std.specs.Ordering.{eq_by_cmp, is_eq, is_lt, is_le, ordering_reverse}
-use Rattle.std.proofs.lemmas.Cmp.{eq_by_cmp_equiv}
-use Rattle.std.proofs.lemmas.List.{append-nil, take-append-drop, length-take-le, length-drop, get_or-take, get_or-drop}
+use Rattle.std.proofs.lemmas.List.{append-nil, take-append-drop, length-take-le, length-drop, get_or-take, get_or-drop, get_or_default}
 use Rattle.std.proofs.lemmas.List.Elements.{All-head, All-tail, All-take, filter-append}
 use Rattle.std.proofs.lemmas.List.Sorted.{ranks_by, sorted_far}
 
@@ -135,6 +134,11 @@ module _ {K : Type 0} {cmp : K → K → Ordering} (total : IsTotalOrder cmp) {X
       filter_between (λ x. eq_by_cmp cmp (key x) k) below within
       (λ x. no_tie_below (cmp (key x) k)) (λ x. no_tie_above (cmp (key x) k)) (λ x. tie_between (cmp (key x) k))
 
--- keys that are the same tie
-pub tied : {K : Type 0} {cmp : K → K → Ordering} → IsTotalOrder cmp → (x y : K) → x ≡ y → eq_by_cmp cmp x y ≡ true
-tied {cmp = cmp} total x y e = subst (λ z. eq_by_cmp cmp x z ≡ true) e ((eq_by_cmp_equiv total).refl x)
+module _ {X : Type 0} (p : X → Bool) (xs : List X) (parted : IsPartitionedBy p xs) where
+  -- where those that pass come first, each passes up to the first that fails, and none from it on
+  pub first_that_fails : (i : ℕ) (x : X) → i < length xs → AllWithin (λ y. p y ≡ true) xs 0 i → x ≡ get_or xs i x → p x ≡ false → IsPartitionPoint (λ y. p y ≡ true) (λ y. p y ≡ false) xs i
+  first_that_fails i x l before at fails = (before, λ k d from below. fails_after k d from below (p (get_or xs k d)) refl)
+    where
+      fails_after : (k : ℕ) (d : X) → i ≤ k → k < length xs → (b : Bool) → p (get_or xs k d) ≡ b → b ≡ false
+      fails_after k d from below true e = absurd (true≢false (sym (parted i k d from below e) ∙ ap p (get_or_default xs i d x l ∙ sym at) ∙ fails))
+      fails_after k d from below false e = refl

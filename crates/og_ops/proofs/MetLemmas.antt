@@ -1,9 +1,10 @@
--- Whether a row meets some of the rows that are lent from a relation: of one more row, of the rows in another order, and of those with a key alone.
-use Rattle.std.proofs.Common.{◌≡◌, ◌++◌, ◌+◌, ◌<◌, ◌≤◌, ◌&&◌, ◌||◌, ℕ, ℤ, Bool, true, false, List, [], ◌∷◌, length, get_or, filter, take, if◌then◌else◌, Ordering, refl, sym, ap, ◌∙◌, true≢false}
-use Rattle.std.specs.List.{All, list_any}
+-- Whether a row meets some of the rows that are lent from a relation: of one more row, and of the rows in another order.
+use Rattle.std.proofs.Common.{◌≡◌, ◌++◌, ◌+◌, ◌<◌, ◌≤◌, ◌&&◌, ◌||◌, ℕ, ℤ, Bool, true, false, List, [], ◌∷◌, length, get_or, filter, take, if◌then◌else◌, Ordering, sym, ap, ◌∙◌}
+use Rattle.std.specs.List.{list_any}
 use Rattle.std.specs.List.Sorted.{IsPermutation}
+use Rattle.std.proofs.Math.Bool.{and-false, and-true, or-false}
 use Rattle.std.proofs.lemmas.List.{map-append, take_more}
-use Rattle.std.proofs.lemmas.List.Elements.{All-head, All-tail, filter_agree}
+use Rattle.std.proofs.lemmas.List.Elements.{filter_agree}
 use Rattle.std.proofs.lemmas.List.Folds.{list_any-append}
 use Rattle.std.proofs.lemmas.List.Sorted.{IsPermutation-map, list_any-IsPermutation}
 use Rattle.og_base.specs.Ranges.{Range, holds_day}
@@ -17,31 +18,11 @@ use Rattle.og_ops.specs.Lending.{lent}
 use Rattle.og_ops.specs.Wanted.{is_wanted}
 use Rattle.og_ops.proofs.RowLemmas.{made_all}
 
--- and with a truth that is true
-and_true : (b : Bool) → (b && true) ≡ (b || false)
-and_true true = refl
-and_true false = refl
-
--- and with a truth that is false
-and_false : (b : Bool) → (b && false) ≡ false
-and_false true = refl
-and_false false = refl
-
--- or with a truth that is false
-or_false : (b : Bool) → b ≡ (b || false)
-or_false true = refl
-or_false false = refl
-
--- what is not true is false
-not_true : (b : Bool) → (b ≡ true → ⊥) → b ≡ false
-not_true true h = absurd (h refl)
-not_true false h = refl
-
 module _ {F : Type 0} (t : F → Bool) (x : F) where
   -- a test of a row that is there on its days
   any_one : (here : Bool) → (t x && here) ≡ list_any t (if here then x ∷ [] else [])
-  any_one true = and_true (t x)
-  any_one false = and_false (t x)
+  any_one true = and-true (t x) ∙ sym (or-false (t x))
+  any_one false = and-false (t x)
 
   -- the days found so far, and those on which the row is there and meets
   pub met_one : (all found shared met here : Bool) → all ≡ (found || shared) → shared ≡ (met && here) → met ≡ t x → all ≡ (found || list_any t (if here then x ∷ [] else []))
@@ -49,7 +30,7 @@ module _ {F : Type 0} (t : F → Bool) (x : F) where
 
   -- a row that does not meet adds nothing
   pub met_none : (found here : Bool) → t x ≡ false → found ≡ (found || list_any t (if here then x ∷ [] else []))
-  met_none found here e = or_false found ∙ ap (λ b. found || b) (sym (ap (λ b. b && here) e) ∙ any_one here)
+  met_none found here e = sym (or-false found) ∙ ap (λ b. found || b) (sym (ap (λ b. b && here) e) ∙ any_one here)
 
 module _ {R F K : Type 0} (at : R → ℤ → F) (t : F → Bool) (d : ℤ) where
   -- a test of the rows of a day of one more row
@@ -67,30 +48,6 @@ module _ {R F K : Type 0} (at : R → ℤ → F) (t : F → Bool) (d : ℤ) wher
       list_any-present at t (lent sorted) d
       ∙ sym (list_any-IsPermutation (λ p. holds_day p.1 d && t (at p.0 d)) (lent rows) (lent sorted) (IsPermutation-map (λ q. (q.row.now, q.days.now)) rows sorted moved))
       ∙ sym (list_any-present at t (lent rows) d)
-
-  -- a test of the rows of a day that pass another, which each row of which the test holds passes
-  pub lent_found-filter : (pass : KeyedRow R K → Bool) (rows : List (KeyedRow R K)) → All (λ s. t (at s.row.now d) ≡ true → pass s ≡ true) rows
-      → list_any t (present at (lent (filter pass rows)) d) ≡ list_any t (present at (lent rows) d)
-  lent_found-filter pass [] h = refl
-  lent_found-filter pass (s ∷ rows) h =
-      first (pass s) (lent_found-filter pass rows (All-tail (λ q. t (at q.row.now d) ≡ true → pass q ≡ true) s rows h))
-      (All-head (λ q. t (at q.row.now d) ≡ true → pass q ≡ true) s rows h)
-    where
-      with_first : (here : Bool) → list_any t (present at (lent (filter pass rows)) d) ≡ list_any t (present at (lent rows) d)
-          → list_any t (if here then at s.row.now d ∷ present at (lent (filter pass rows)) d else present at (lent (filter pass rows)) d)
-          ≡ list_any t (if here then at s.row.now d ∷ present at (lent rows) d else present at (lent rows) d)
-      with_first true e = ap (λ b. t (at s.row.now d) || b) e
-      with_first false e = e
-
-      without_first : (here : Bool) → t (at s.row.now d) ≡ false → list_any t (present at (lent (filter pass rows)) d) ≡ list_any t (present at (lent rows) d)
-          → list_any t (present at (lent (filter pass rows)) d) ≡ list_any t (if here then at s.row.now d ∷ present at (lent rows) d else present at (lent rows) d)
-      without_first true none e = e ∙ ap (λ b. b || list_any t (present at (lent rows) d)) (sym none)
-      without_first false none e = e
-
-      first : (p : Bool) → list_any t (present at (lent (filter pass rows)) d) ≡ list_any t (present at (lent rows) d) → (t (at s.row.now d) ≡ true → p ≡ true)
-          → list_any t (present at (lent (if p then s ∷ filter pass rows else filter pass rows)) d) ≡ list_any t (present at (lent (s ∷ rows)) d)
-      first true e h = with_first (holds_day s.days.now d) e
-      first false e h = without_first (holds_day s.days.now d) (not_true (t (at s.row.now d)) (λ y. true≢false (sym (h y)))) e
 
 -- one more row that is lent, at its place
 pub lent_more : {R K : Type 0} (rel : List (R × List Range)) (old new : List (KeyedRow R K)) (i : ℕ) (s : KeyedRow R K) → i < length rel → new ≡ old ++ s ∷ []

@@ -80,7 +80,7 @@ pub size_more : (a b i n m : ℕ) → a ≤ i * m → n ≤ m → b ≡ a + n �
 size_more a b i n m h k e = grind (arith, h, k, e)
 
 -- tests that agree on every row agree on a list of rows
-any_alike : {F : Type 0} (p q : F → Bool) (xs : List F) → ((x : F) → p x ≡ q x) → list_any p xs ≡ list_any q xs
+pub any_alike : {F : Type 0} (p q : F → Bool) (xs : List F) → ((x : F) → p x ≡ q x) → list_any p xs ≡ list_any q xs
 any_alike p q [] h = refl
 any_alike p q (x ∷ xs) h = ap₂ (λ a b. a || b) (h x) (any_alike p q xs h)
 

@@ -1,5 +1,6 @@
 pub mod Days
 pub mod Keyed
 pub mod Lending
+pub mod Members
 pub mod Plain
 pub mod Wanted

@@ -17,7 +17,7 @@ pub use operator::{BinaryOp, UnaryOp};
 pub use pair::{Hit, test_pair};
 pub use product::Product;
 pub use project::Project;
-pub use semijoins::{KeyedRow, by_key, semijoin, with_key};
+pub use semijoins::{KeyedRow, semijoin, with_key};
 pub use sets::{Difference, Intersection, Union};
 pub use sift::{Restrict, Select};
 pub use split::Split;

@@ -1,23 +1,26 @@
-//! Conditions on a row of one relation and a row of another, and keys by which the rows that may meet
+//! Conditions on a row of one relation and a row of another, and groups by which the rows that may meet
 //! find each other.
 ghost use Rattle.std.specs.Prelude.{◌≡◌, ℤ, Bool, true, false, Option, Some, IfOk};
 ghost use Rattle.og_base.specs.Calendar.{IsRefDay};
+ghost use Rattle.og_base.specs.Groups.{share_group};
 ghost use Rattle.og_base.specs.Ranges.{holds_day};
 
-use og_base::{DayCond, Glue, Grouped, Instant, NoMemory, RtSet};
+use og_base::{DayCond, Glue, Grouped, Groups, Instant, NoMemory, RtSet};
 use std::alloc::Global;
 
-/// A condition on two rows of a day, one on the left and one on the right. A left row may seek a key,
-/// and then meets only right rows that have it.
+/// A condition on two rows of a day, one on the left and one on the right. A left row may seek groups,
+/// and then meets only right rows that stand in one of them.
 pub trait Matching<R: Instant> {
-    /// What is the same on all days in rows that meet.
-    type Key: Ord + Drop;
+    ghost use Rattle.og_base.specs.declared.row.Groups.{Groups};
 
+    /// Whether the rows of a day meet.
     ghost meets: { Self → ℤ → R.Fixed → R.Fixed → Bool };
 
-    ghost sought: { Self → R → Option Self.Key };
+    /// The groups that a left row seeks; None where it may meet rows of any group.
+    ghost sought: { Self → R → Option Groups };
 
-    ghost key_of: { Self → R → Self.Key };
+    /// The groups in which a right row stands.
+    ghost standing: { Self → R → Groups };
 
     /// The days on which the two rows meet.
     fn meeting_days(&self, alloc: Global, left: &R, right: &R) -> Result<RtSet, NoMemory>
@@ -29,20 +32,20 @@ pub trait Matching<R: Instant> {
         ensures { result ≡ false → (d : ℤ) → IsRefDay d →
             meets self.now d (R.meaning left.now d) (R.meaning right.now d) ≡ false };
 
-    /// The key that the left row seeks; None where it may meet rows of any key.
-    fn seek(&self, alloc: Global, left: &R) -> Result<Option<Self::Key>, NoMemory>
-        ensures { IfOk result (λ k. k ≡ sought self.now left.now) };
+    /// The groups that the left row seeks; None where it may meet rows of any group. Takes no memory.
+    fn seek(&self, left: &R) -> Option<Groups>
+        ensures { result ≡ sought self.now left.now };
 
-    /// The key of the right row.
-    fn key(&self, alloc: Global, right: &R) -> Result<Self::Key, NoMemory>
-        ensures { IfOk result (λ k. k ≡ key_of self.now right.now) };
+    /// The groups in which the right row stands. Takes no memory.
+    fn groups(&self, right: &R) -> Groups
+        ensures { result ≡ standing self.now right.now };
 
-    /// A right row that meets a left row has the key which that row seeks.
-    ghost keyed: { (m : Self) (left right : R) (k : Self.Key) (d : ℤ) → IsRefDay d → sought m left ≡ Some k →
-        meets m d (R.meaning left d) (R.meaning right d) ≡ true → key_of m right ≡ k };
+    /// A right row that meets a left row stands in one of the groups which that row seeks.
+    ghost keyed: { (m : Self) (left right : R) (g : Groups) (d : ℤ) → IsRefDay d → sought m left ≡ Some g →
+        meets m d (R.meaning left d) (R.meaning right d) ≡ true → share_group g (standing m right) ≡ true };
 }
 
-/// Two rows that are equal. The key of a row is its group.
+/// Two rows that are equal. They find each other by their groups.
 #[derive(Clone, Copy, Debug)]
 pub struct Equality;
 
@@ -51,13 +54,11 @@ impl<R: Grouped> Matching<R> for Equality {
     ghost use Rattle.std.specs.Ordering.{eq_by_cmp};
     ghost use Rattle.og_ops.specs.Keyed.{equal_keyed};
 
-    type Key = R::Fixed;
-
     ghost meets = { λ m d x y. eq_by_cmp R.Fixed.cmp x y };
 
-    ghost sought = { λ m left. Some (R.group_of left) };
+    ghost sought = { λ m left. Some (R.seeking left) };
 
-    ghost key_of = { λ m right. R.group_of right };
+    ghost standing = { λ m right. R.standing right };
 
     fn meeting_days(&self, alloc: Global, left: &R, right: &R) -> Result<RtSet, NoMemory> {
         left.same(alloc, right)
@@ -69,18 +70,18 @@ impl<R: Grouped> Matching<R> for Equality {
         true
     }
 
-    fn seek(&self, alloc: Global, left: &R) -> Result<Option<R::Fixed>, NoMemory> {
-        Ok(Some(left.group(alloc)?))
+    fn seek(&self, left: &R) -> Option<Groups> {
+        Some(left.seeks_in())
     }
 
-    fn key(&self, alloc: Global, right: &R) -> Result<R::Fixed, NoMemory> {
-        right.group(alloc)
+    fn groups(&self, right: &R) -> Groups {
+        right.stands_in()
     }
 
-    ghost keyed = { λ m left right k d day. equal_keyed R.exact (R.meaning left d) (R.meaning right d) (R.group_of left) (R.group_of right) k (R.grouped left right d day) };
+    ghost keyed = { λ m left right g d day. equal_keyed R.exact (R.meaning left d) (R.meaning right d) (R.seeking left) (R.standing right) g (R.grouped left right d day) };
 }
 
-/// Two rows of which a condition holds when they are glued. No keys are known.
+/// Two rows of which a condition holds when they are glued. No groups are known.
 #[derive(Drop)]
 pub struct Glued<'a, C> {
     pub cond: &'a C,
@@ -90,13 +91,11 @@ impl<'a, R: Glue + Drop, C: DayCond<R>> Matching<R> for Glued<'a, C> {
     ghost use Rattle.std.specs.Prelude.{None};
     ghost use Rattle.og_ops.specs.Keyed.{none_keyed};
 
-    type Key = u8;
-
     ghost meets = { λ m d x y. C.holds m.cond.now d (R.glued x y) };
 
     ghost sought = { λ m left. None };
 
-    ghost key_of = { λ m right. 0 };
+    ghost standing = { λ m right. record { first = 0; second = 0 } };
 
     fn meeting_days(&self, alloc: Global, left: &R, right: &R) -> Result<RtSet, NoMemory> {
         self.cond.days_of_pair(alloc, left, right)
@@ -106,15 +105,18 @@ impl<'a, R: Glue + Drop, C: DayCond<R>> Matching<R> for Glued<'a, C> {
         self.cond.may_hold(left, right)
     }
 
-    fn seek(&self, _alloc: Global, left: &R) -> Result<Option<u8>, NoMemory> {
+    fn seek(&self, left: &R) -> Option<Groups> {
         let _ = left;
-        Ok(None)
+        None
     }
 
-    fn key(&self, _alloc: Global, right: &R) -> Result<u8, NoMemory> {
+    fn groups(&self, right: &R) -> Groups {
         let _ = right;
-        Ok(0)
+        Groups {
+            first: 0,
+            second: 0,
+        }
     }
 
-    ghost keyed = { λ m left right k d day none met. none_keyed k none };
+    ghost keyed = { λ m left right g d day none met. none_keyed g none };
 }

@@ -1,17 +1,19 @@
 //! Rows of a relation on the days on which they meet some row of another, or none.
-ghost use Rattle.std.specs.Prelude.{◌≡◌, ◌++◌, ◌+◌, ◌≤◌, ◌||◌, ℤ, Bool, [], ◌∷◌, IfOk, OnOk, filter, length};
+ghost use Rattle.std.specs.Prelude.{◌≡◌, ◌++◌, ◌+◌, ◌≤◌, ◌||◌, ℕ, ℤ, Bool, true, false, List, [], ◌∷◌, IfOk, OnOk, filter, length};
 ghost use Rattle.std.specs.List.{list_any};
-ghost use Rattle.std.specs.Ordering.{eq_by_cmp, is_lt, is_le};
+ghost use Rattle.std.specs.List.Sorted.{IsPartitionedBy, IsPartitionPoint};
+ghost use Rattle.std.specs.Ordering.{eq_by_cmp, is_lt, is_le, nat_cmp};
 ghost use Rattle.og_base.specs.Calendar.{IsRefDay};
-ghost use Rattle.og_base.specs.Ranges.{holds_day};
+ghost use Rattle.og_base.specs.Ranges.{Range, holds_day};
 ghost use Rattle.og_rel.specs.Relations.{present, relation_at};
-ghost use Rattle.og_ops.specs.Lending.{lent, ByKey, HaveKeys};
+ghost use Rattle.og_ops.specs.Lending.{lent, ByKey};
+ghost use Rattle.og_ops.specs.Members.{AreMembers};
 ghost use Rattle.og_ops.specs.Wanted.{is_wanted};
 
 use crate::matching::Matching;
 use crate::puts::put_row;
 use crate::sift::wanted_days;
-use og_base::{Glue, NoMemory, RtSet};
+use og_base::{Glue, Groups, NoMemory, RtSet};
 use og_rel::Rel;
 use std::alloc::Global;
 use std::cmp::Ordering;
@@ -25,9 +27,9 @@ pub struct KeyedRow<'a, R, K> {
 }
 
 /// The rows of the left on the days on which they meet some row of the right, where `wanted`, and
-/// otherwise on those on which they meet none. The right rows are put in the order of their keys, so
-/// that a left row is tried with those alone that have the key which it seeks. Refused only for want
-/// of memory.
+/// otherwise on those on which they meet none. The right rows are put in the order of their groups, so
+/// that a left row is tried with those alone that stand in a group which it seeks. Refused only for
+/// want of memory.
 pub fn semijoin<R: Glue + Drop, M: Matching<R>>(
     alloc: Global,
     matching: &M,
@@ -39,7 +41,7 @@ pub fn semijoin<R: Glue + Drop, M: Matching<R>>(
         ≡ filter (λ x. is_wanted wanted (list_any (M.meets matching.now d x) (relation_at R.Fixed.cmp R.meaning right.now d))) (relation_at R.Fixed.cmp R.meaning left.now d)) }
     ensures size { IfOk result (λ r. length r ≤ length left.now) }
 {
-    let others = by_key(alloc, matching, right)?;
+    let others = by_group(alloc, matching, right)?;
     let mut kept = Rel::new(alloc);
     'rows: for i in 0..left.len() {
         keep_row_that_meets(
@@ -62,11 +64,11 @@ fn keep_row_that_meets<R: Glue + Drop, M: Matching<R>>(
     wanted: bool,
     row: &R,
     days: &RtSet,
-    others: &[KeyedRow<'_, R, M::Key>],
+    others: &[KeyedRow<'_, R, u64>],
     kept: &mut Rel<R>,
 ) -> Result<(), NoMemory>
-    requires rising { ByKey M.Key.cmp others.now }
-    requires keys { HaveKeys (M.key_of matching.now) others.now }
+    requires rising { ByKey nat_cmp others.now }
+    requires groups { AreMembers (M.standing matching.now) (lent others.now) others.now }
     ensures rows { OnOk result ((d : ℤ) → IsRefDay d → present R.meaning kept.new d
         ≡ present R.meaning kept.old d ++ filter (λ x. is_wanted wanted (list_any (M.meets matching.now d x) (present R.meaning (lent others.now) d))) (present R.meaning ((row.now, days.now) ∷ []) d)) }
     ensures size { OnOk result (length kept.new ≤ length kept.old + 1) }
@@ -76,63 +78,96 @@ fn keep_row_that_meets<R: Glue + Drop, M: Matching<R>>(
     put_row(alloc, row, left, kept)
 }
 
-// The days on which the left row meets one of the rows, which is present. It is tried with those
-// alone that have the key which it seeks.
+// The days on which the left row meets one of the members, which is present. It is tried with those
+// alone that stand in a group which it seeks.
 fn sought_days<R: Glue, M: Matching<R>>(
     alloc: Global,
     matching: &M,
     left: &R,
-    rows: &[KeyedRow<'_, R, M::Key>],
+    members: &[KeyedRow<'_, R, u64>],
 ) -> Result<RtSet, NoMemory>
-    requires rising { ByKey M.Key.cmp rows.now }
-    requires keys { HaveKeys (M.key_of matching.now) rows.now }
+    requires rising { ByKey nat_cmp members.now }
+    requires groups { AreMembers (M.standing matching.now) (lent members.now) members.now }
     ensures { IfOk result (λ s. (d : ℤ) → IsRefDay d → holds_day s d
-        ≡ list_any (M.meets matching.now d (R.meaning left.now d)) (present R.meaning (lent rows.now) d)) }
+        ≡ list_any (M.meets matching.now d (R.meaning left.now d)) (present R.meaning (lent members.now) d)) }
 {
-    match matching.seek(alloc, left)? {
-        Some(key) => met_days(alloc, matching, left, with_key(&key, rows)),
-        None => met_days(alloc, matching, left, rows),
+    let none = RtSet::empty(alloc);
+    let Some(groups) = matching.seek(left) else {
+        return met_days(alloc, matching, none, left, members);
+    };
+    let found = met_days(
+        alloc,
+        matching,
+        none,
+        left,
+        with_key(&groups.first, members),
+    )?;
+    if groups.second == groups.first {
+        return Ok(found);
     }
+    met_days(
+        alloc,
+        matching,
+        found,
+        left,
+        with_key(&groups.second, members),
+    )
 }
 
-/// The rows of the relation with their keys, in the order of the keys. Refused only for want of memory.
-pub fn by_key<'a, R: Glue + Drop, M: Matching<R>>(
+// The rows of the relation, once for each of their groups, in the order of the groups.
+fn by_group<'a, R: Glue + Drop, M: Matching<R>>(
     alloc: Global,
     matching: &M,
     rel: &'a Rel<R>,
-) -> Result<Vec<KeyedRow<'a, R, M::Key>>, NoMemory>
-    ensures rising { IfOk result (λ v. ByKey M.Key.cmp v.items) }
-    ensures keys { IfOk result (λ v. HaveKeys (M.key_of matching.now) v.items) }
+) -> Result<Vec<KeyedRow<'a, R, u64>>, NoMemory>
+    ensures rising { IfOk result (λ v. ByKey nat_cmp v.items) }
+    ensures groups { IfOk result (λ v. AreMembers (M.standing matching.now) (lent v.items) v.items) }
     ensures rows { IfOk result (λ v. (t : R.Fixed → Bool) (d : ℤ) →
         list_any t (present R.meaning (lent v.items) d) ≡ list_any t (present R.meaning rel.now d)) }
-    ensures size { IfOk result (λ v. length v.items ≡ length rel.now) }
 {
-    let mut rows = lend_rows(alloc, matching, rel)?;
-    rows.sort_by(
-        |a: &KeyedRow<R, M::Key>, b: &KeyedRow<R, M::Key>| -> Ordering
-            ensures { result ≡ M.Key.cmp a.now.key b.now.key }
+    let mut members = members_of(alloc, matching, rel)?;
+    members.sort_by(
+        |a: &KeyedRow<R, u64>, b: &KeyedRow<R, u64>| -> Ordering
+            ensures { result ≡ nat_cmp a.now.key b.now.key }
         { a.key.cmp(&b.key) },
     )?;
-    Ok(rows)
+    Ok(members)
 }
 
-// The rows of the relation with their keys, in the order of the relation.
-fn lend_rows<'a, R: Glue + Drop, M: Matching<R>>(
+// The rows of the relation, once for each of their groups, in the order of the relation.
+fn members_of<'a, R: Glue + Drop, M: Matching<R>>(
     alloc: Global,
     matching: &M,
     rel: &'a Rel<R>,
-) -> Result<Vec<KeyedRow<'a, R, M::Key>>, NoMemory>
-    ensures keys { IfOk result (λ v. HaveKeys (M.key_of matching.now) v.items) }
-    ensures rows { IfOk result (λ v. lent v.items ≡ rel.now) }
+) -> Result<Vec<KeyedRow<'a, R, u64>>, NoMemory>
+    ensures { IfOk result (λ v. AreMembers (M.standing matching.now) rel.now v.items) }
 {
-    let mut rows = Vec::with_capacity(alloc, rel.len())?;
+    let mut members = Vec::with_capacity(alloc, rel.len())?;
     'rows: for i in 0..rel.len() {
         let row = rel.row(i);
-        let key = matching.key(alloc, row)?;
-        let days = rel.days(i);
-        rows.push(KeyedRow { key, row, days })?;
+        enter(matching.groups(row), row, rel.days(i), &mut members)?;
     }
-    Ok(rows)
+    Ok(members)
+}
+
+// Adds the row once for each of the groups.
+fn enter<'a, R>(
+    groups: Groups,
+    row: &'a R,
+    days: &'a RtSet,
+    members: &mut Vec<KeyedRow<'a, R, u64>>,
+) -> Result<(), NoMemory>
+    ensures { OnOk result ((test : ℕ → R × List Range → Bool) →
+        list_any (λ s. test s.key (s.row.now, s.days.now)) members.new.items
+        ≡ (list_any (λ s. test s.key (s.row.now, s.days.now)) members.old.items || (test groups.first (row.now, days.now) || test groups.second (row.now, days.now)))) }
+{
+    let key = groups.first;
+    members.push(KeyedRow { key, row, days })?;
+    if groups.second != groups.first {
+        let key = groups.second;
+        members.push(KeyedRow { key, row, days })?;
+    }
+    Ok(())
 }
 
 /// Those of the rows, which stand in the order of their keys, that have the key.
@@ -149,25 +184,43 @@ pub fn with_key<'s, 'a, R, K: Ord>(
         { other.key < *key },
     );
     let rest = &rows[first..];
-    let count = rest.partition_point(
-        |other: &KeyedRow<R, K>| -> bool
-            ensures { result ≡ is_le (K.cmp other.now.key key.entry.now) }
-        { other.key <= *key },
-    );
-    &rest[..count]
+    &rest[..count_within(key, rest)]
 }
 
-// The days on which the left row meets one of the rows, which is present.
+// How many of the first rows have a key at most so high. It steps from row to row, since few rows
+// have one key.
+fn count_within<R, K: Ord>(key: &K, rows: &[KeyedRow<'_, R, K>]) -> usize
+    requires { IsPartitionedBy (λ other. is_le (K.cmp other.key key.now)) rows.now }
+    ensures bound { result ≤ length rows.now }
+    ensures within { IsPartitionPoint (λ other. is_le (K.cmp other.key key.now) ≡ true) (λ other. is_le (K.cmp other.key key.now) ≡ false) rows.now result }
+{
+    'rows: for i in 0..rows.len() {
+        if !is_within(key, &rows[i]) {
+            return i;
+        }
+    }
+    rows.len()
+}
+
+// Whether the row has a key at most so high.
+fn is_within<R, K: Ord>(key: &K, row: &KeyedRow<'_, R, K>) -> bool
+    ensures { result ≡ is_le (K.cmp row.now.key key.now) }
+{
+    row.key <= *key
+}
+
+// The days found so far, and those on which the left row meets one of the rows, which is present.
 fn met_days<R: Glue, M: Matching<R>>(
     alloc: Global,
     matching: &M,
+    found: RtSet,
     left: &R,
-    rows: &[KeyedRow<'_, R, M::Key>],
+    rows: &[KeyedRow<'_, R, u64>],
 ) -> Result<RtSet, NoMemory>
     ensures { IfOk result (λ s. (d : ℤ) → IsRefDay d → holds_day s d
-        ≡ list_any (M.meets matching.now d (R.meaning left.now d)) (present R.meaning (lent rows.now) d)) }
+        ≡ (holds_day found d || list_any (M.meets matching.now d (R.meaning left.now d)) (present R.meaning (lent rows.now) d))) }
 {
-    let mut found = RtSet::empty(alloc);
+    let mut found = found;
     'rows: for other in rows {
         found = more_days(alloc, matching, found, left, other.row, other.days)?;
     }

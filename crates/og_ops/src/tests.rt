@@ -6,7 +6,7 @@ use crate::{
     test_pair,
 };
 use og_base::{
-    DayCond, ExtDay, Glue, Grouped, Instant, NoMemory, OngoingRow, RefDay, RowMap, RtSet,
+    DayCond, ExtDay, Glue, Grouped, Groups, Instant, NoMemory, OngoingRow, RefDay, RowMap, RtSet,
 };
 use og_rel::Rel;
 use std::alloc::Global;
@@ -46,13 +46,28 @@ impl OngoingRow for Number {
 }
 
 impl Grouped for Number {
-    ghost group_of = { λ row. row.value };
+    ghost use Rattle.og_base.specs.GroupLaws.{share-first};
 
-    fn group(&self, _alloc: Global) -> Result<u32, NoMemory> {
-        Ok(self.value)
+    ghost standing = { λ row. record { first = row.value; second = row.value } };
+
+    ghost seeking = { λ row. record { first = row.value; second = 0 } };
+
+    fn stands_in(&self) -> Groups {
+        let value = self.value as u64;
+        Groups {
+            first: value,
+            second: value,
+        }
     }
 
-    ghost grouped = { λ x y d day same. same };
+    fn seeks_in(&self) -> Groups {
+        Groups {
+            first: self.value as u64,
+            second: 0,
+        }
+    }
+
+    ghost grouped = { λ x y d day same. share-first (record { first = x.value; second = 0 }) (record { first = y.value; second = y.value }) same };
 }
 
 impl Glue for Number {

@@ -33,7 +33,7 @@ impl<R: Glue + Drop, C: DayCond<R>> BinaryOp<R> for Semi<C> {
 }
 
 /// The rows of the left that meet some row of the right, where `positive`, and otherwise those that
-/// meet none. A left row is tried with the right rows alone that have the key which it seeks.
+/// meet none. A left row is tried with the right rows alone that stand in a group which it seeks.
 #[derive(Drop)]
 pub struct KeyedSemi<M> {
     pub matching: M,

@@ -4,5 +4,6 @@ pub mod GroupLaws
 pub mod Groups
 pub mod Order
 pub mod Schemas
+pub mod Steady
 pub mod Values
 pub mod Words

@@ -3,6 +3,7 @@
 
 mod catalog;
 mod cell;
+mod digests;
 mod kind;
 mod listed;
 mod name;

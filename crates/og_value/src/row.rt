@@ -7,9 +7,10 @@ ghost use Rattle.og_value.specs.Order.{row_order};
 ghost use Rattle.og_value.specs.Values.{row_at};
 ghost use Rattle.og_value.specs.declared.value.FixedValue as fixed;
 
+use crate::digests::{are_steady, loose, whole};
 use crate::listed::Listed;
 use crate::value::{FixedValue, Value};
-use og_base::{Glue, Grouped, Instant, NoMemory, OngoingRow, RefDay, RtSet};
+use og_base::{Glue, Grouped, Groups, Instant, NoMemory, OngoingRow, RefDay, RtSet};
 use std::alloc::Global;
 use std::marker::Model;
 
@@ -135,20 +136,39 @@ impl OngoingRow for Row {
     }
 }
 
-/// The group of a row is its numbers and texts, and which of its other values are points and which
-/// are periods.
+/// A row that is the same on all days finds its like by all of its values. All others find each other
+/// by numbers and texts.
 impl Grouped for Row {
     ghost use Rattle.og_value.specs.GroupLaws.{rows_grouped};
-    ghost use Rattle.og_value.specs.Groups.{row_group};
+    ghost use Rattle.og_value.specs.Groups.{row_standing, row_seeking};
 
-    ghost group_of = { λ row. row_group row };
+    ghost standing = { λ row. row_standing row };
 
-    fn group(&self, alloc: Global) -> Result<FixedRow, NoMemory> {
-        let mut values = Vec::with_capacity(alloc, self.len())?;
-        'values: for value in self.values.as_slice() {
-            values.push(value.group()?)?;
+    ghost seeking = { λ row. row_seeking row };
+
+    fn stands_in(&self) -> Groups {
+        let values = self.values.as_slice();
+        if are_steady(values) {
+            let first = loose(1, values);
+            let second = whole(2, values);
+            return Groups { first, second };
         }
-        Ok(FixedRow::of(values))
+        let group = loose(0, values);
+        Groups {
+            first: group,
+            second: group,
+        }
+    }
+
+    fn seeks_in(&self) -> Groups {
+        let values = self.values.as_slice();
+        let first = loose(0, values);
+        let second = if are_steady(values) {
+            whole(2, values)
+        } else {
+            loose(1, values)
+        };
+        Groups { first, second }
     }
 
     ghost grouped = { rows_grouped };
@@ -231,6 +251,30 @@ mod tests {
         let fixed = copy.at(rt.alloc(), read_ref_day(b"2020-05-01")?)?;
         assert_eq!(rt; fixed.len(), 4);
         assert!(rt; *fixed.value(3) == FixedValue::Date(read_day(b"infinity")?));
+        Ok(())
+    }
+
+    // Whether the second row stands in a group in which the first seeks.
+    fn is_found(first: &Row, second: &Row) -> bool {
+        let sought = first.seeks_in();
+        let groups = second.stands_in();
+        [sought.first, sought.second].contains(&groups.first)
+            || [sought.first, sought.second].contains(&groups.second)
+    }
+
+    #[test]
+    fn a_row_finds_those_that_it_may_be_equal_to(rt: HostRuntime) -> Result<(), Fail> {
+        for (point, other, found) in [
+            ("2020-05-01", "2020-05-01", true),
+            ("2020-05-01", "2020-05-02", false),
+            ("2020-05-01", "now", true),
+            ("now", "2020-05-01", true),
+            ("now", "2020-05-01+", true),
+        ] {
+            let first = row(rt.alloc(), 1, point)?;
+            let second = row(rt.alloc(), 1, other)?;
+            assert_eq!(rt; is_found(&first, &second), found, "{point} and {other}");
+        }
         Ok(())
     }
 

@@ -3,7 +3,6 @@ ghost use Rattle.std.specs.Prelude.{◌≡◌, ℤ, IfOk};
 ghost use Rattle.std.specs.Bool.{Decides};
 ghost use Rattle.og_base.specs.Calendar.{IsRefDay};
 ghost use Rattle.og_base.specs.Ranges.{holds_day};
-ghost use Rattle.og_value.specs.Groups.{value_group};
 ghost use Rattle.og_value.specs.Values.{value_at};
 ghost use Rattle.og_time.specs.Period.{period_at};
 
@@ -77,22 +76,6 @@ impl Value {
             (Value::Period(i), Value::Period(j)) => same_periods(alloc, *i, *j),
             _ => Ok(RtSet::empty(alloc)),
         }
-    }
-
-    /// The group of the value: values of two groups are equal on no day.
-    pub(crate) fn group(&self) -> Result<FixedValue, NoMemory>
-        ensures { IfOk result (λ x. x ≡ value_group self.now) }
-    {
-        let group = match self {
-            Value::Int(n) => FixedValue::Int(*n),
-            Value::Text(text) => FixedValue::Text(text.copy()?),
-            Value::Point(_) => FixedValue::Date(ExtDay::NEG),
-            Value::Period(_) => FixedValue::Period(FixedPeriod {
-                start: ExtDay::NEG,
-                end: ExtDay::NEG,
-            }),
-        };
-        Ok(group)
     }
 }
 

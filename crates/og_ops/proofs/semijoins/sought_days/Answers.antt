@@ -1,21 +1,34 @@
-use Rattle.std.proofs.Common.{sym, ap, ◌∙◌}
+use Rattle.std.proofs.Common.{◌||◌, sym, ap₂, ◌∙◌}
 use Rattle.std.specs.List.{list_any}
-use Rattle.std.specs.Ordering.{eq_by_cmp}
 use Rattle.std.proofs.lemmas.Result.{IfOk-weaker}
+use Rattle.og_base.specs.Ranges.{holds_day}
 use Rattle.og_rel.specs.Relations.{present}
 use Rattle.og_ops.specs.Lending.{lent}
-use Rattle.og_ops.proofs.KeyLemmas.{tied}
-use Rattle.og_ops.proofs.MetLemmas.{lent_found-filter}
+use Rattle.og_ops.proofs.MemberLemmas.{met_in_group, met_in_groups}
 use Rattle.og_ops.proofs.semijoins.sought_days.Goals as goal
 
-pub returns-in-Some : goal.returns-in-Some
-returns-in-Some g c =
+pub returns-then-groups : goal.returns-then-groups
+returns-then-groups g c d r =
     let at = g.R.Instant.meaning in
     let matching = c.args.matching.now in
     let left = c.args.left.now in
-    let key = c.in-Some.key in
-    let sought = sym c.in_ok-key.ensures ∙ c.in-Some.is in
-    IfOk-weaker c.met_days.result _ _ (λ s h d r. h d r
-    ∙ ap (λ rows. list_any (g.M.Matching.meets matching d (at left d)) (present at (lent rows) d)) c.with_key.ensures
-    ∙ lent_found-filter at (g.M.Matching.meets matching d (at left d)) d (λ other. eq_by_cmp g.M.Key.Ord.cmp other.key key) c.args.rows.now
-    (λ i e l meets. tied g.met.M.Key.Ord.total _ key (c.requires.keys i e l ∙ g.met.M.Matching.keyed matching left _ key d r sought meets))) c.met_days.ensures
+    let t = g.M.Matching.meets matching d (at left d) in
+    let sought = sym c.seek.ensures ∙ c.in-Some.is in
+    c.in_ok-found.ensures d r
+    ∙ ap₂ (λ days rows. holds_day days d || list_any t (present at (lent rows) d)) c.empty-none.ensures c.with_key.ensures
+    ∙ met_in_group (g.M.Matching.standing matching) at t d c.args.members.now c.requires.groups c.in-Some.groups
+    (λ row met. g.met.M.Matching.keyed matching left row c.in-Some.groups d r sought met) c.if-groups.true
+
+pub returns : goal.returns
+returns g c =
+    let at = g.R.Instant.meaning in
+    let matching = c.args.matching.now in
+    let left = c.args.left.now in
+    let sought = sym c.seek.ensures ∙ c.in-Some.is in
+    IfOk-weaker c.met_days-3.result _ _ (λ s h d r.
+    let t = g.M.Matching.meets matching d (at left d) in
+    h d r
+    ∙ ap₂ (λ b rows. b || list_any t (present at (lent rows) d))
+    (c.in_ok-found.ensures d r ∙ ap₂ (λ days rows. holds_day days d || list_any t (present at (lent rows) d)) c.empty-none.ensures c.with_key.ensures) c.with_key-2.ensures
+    ∙ met_in_groups (g.M.Matching.standing matching) at t d c.args.members.now c.requires.groups c.in-Some.groups
+    (λ row met. g.met.M.Matching.keyed matching left row c.in-Some.groups d r sought met)) c.met_days-3.ensures
