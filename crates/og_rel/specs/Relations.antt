@@ -1,8 +1,12 @@
 -- Relations: rows with the ranges of their days, and what they are at a day.
-use Rattle.std.specs.Prelude.{ℤ, List, [], ◌∷◌, if◌then◌else◌}
+use Rattle.std.specs.Prelude.{◌≢◌, ℤ, List, [], ◌∷◌, if◌then◌else◌}
 use Rattle.std.specs.declared.cmp.Ordering.{Ordering}
-use Rattle.og_base.specs.Ranges.{Range, holds_day}
+use Rattle.og_base.specs.Ranges.{Range, IsNormal, holds_day}
 use Rattle.og_base.specs.Set.{set_of}
+
+-- the days of a row: there is one, and their ranges are in the normal form
+abbrev pub HasDays : List Range → Type 0
+HasDays days = (days ≢ []) × IsNormal days
 
 -- the rows that are present on the day, at the day: one of their ranges holds it
 abbrev pub present : {R F : Type 0} → (R → ℤ → F) → List (R × List Range) → ℤ → List F

@@ -1,8 +1,8 @@
 //! Relations.
-ghost use Rattle.std.specs.Prelude.{◌≡◌, ◌≢◌, ◌++◌, ◌<◌, ◌≤◌, List, [], ◌∷◌, IfOk, OnOk, OnErr, length, slice_index_or};
+ghost use Rattle.std.specs.Prelude.{◌≡◌, ◌++◌, ◌<◌, ◌≤◌, List, [], ◌∷◌, IfOk, OnOk, OnErr, length, slice_index_or};
 ghost use Rattle.std.specs.List.{All};
 ghost use Rattle.og_base.specs.Ranges.{Range};
-ghost use Rattle.og_rel.specs.Relations.{relation_at, stored};
+ghost use Rattle.og_rel.specs.Relations.{HasDays, relation_at, stored};
 
 use crate::blocks::{AtDay, blocks_of};
 use crate::pair::{Pair, present_rows};
@@ -20,15 +20,16 @@ pub struct Rel<R> {
 }
 
 impl<R> Model for Rel<R> {
-    ghost use Rattle.std.specs.Prelude.{List, map, [], ◌≢◌};
+    ghost use Rattle.std.specs.Prelude.{List, map};
     ghost use Rattle.std.specs.List.{All};
     ghost use Rattle.og_base.specs.Ranges.{Range};
+    ghost use Rattle.og_rel.specs.Relations.{HasDays};
 
     ghost Value = { List (R × List Range) };
 
     ghost view = { λ rel. map (λ p. (p.row, p.days)) rel.pairs.items };
 
-    ghost invariant = { λ rel. All (λ p. p.days ≢ []) rel.pairs.items };
+    ghost invariant = { λ rel. All (λ p. HasDays p.days) rel.pairs.items };
 }
 
 impl<R> Rel<R> {
@@ -49,6 +50,7 @@ impl<R> Rel<R> {
         ensures pushed { OnOk result (self.new ≡ self.old ++ stored row days) }
         ensures refused { OnErr result (self.new ≡ self.old) }
     {
+        days.normal();
         if !days.is_empty() {
             self.pairs.push(Pair { row, days })?;
         }
@@ -93,7 +95,7 @@ impl<R> Rel<R> {
 
     /// Each row has a day.
     pub fn some_days(&self)
-        ensures { All (λ p. p.1 ≢ []) self.now }
+        ensures { All (λ p. HasDays p.1) self.now }
     {
         let _ = &self.pairs;
     }
