@@ -14,16 +14,17 @@ use Rattle.og_value.specs.declared.value.Value.{Value}
 use Rattle.og_query.specs.Conditions.{compares, relates, is_empty, contains, truth, truth_step}
 use Rattle.og_query.specs.Expressions.{no_value, call_of, meaning, value_step}
 use Rattle.og_query.specs.Kinds.{all_kinds, call_kind_of, kind_in, kind_step, are_comparable, is_date, is_period, fits, fit_step}
-use Rattle.og_query.specs.Steady.{is_steady_value, is_steady_expr, is_steady_cond, steady_step, steady_part}
+use Rattle.og_value.specs.Steady.{is_steady_value}
+use Rattle.og_query.specs.Steady.{is_steady_expr, is_steady_cond, steady_step, steady_part}
 use Rattle.og_query.specs.declared.expression.Expr.{Expr, fold-Expr, fold-roll-Expr, ind-Expr, map-Expr, roll-Expr}
 use Rattle.og_query.specs.declared.expression.Expr.TheVariants.{Column, Lit, Call, rolls-Column, rolls-Lit, rolls-Call}
 use Rattle.og_query.specs.declared.expression.Expr.TheOpen as e
-use Rattle.og_query.specs.declared.condition.Cond.{Cond, fold-Cond, fold-roll-Cond}
+use Rattle.og_query.specs.declared.condition.Cond.{Cond, fold-Cond, fold-roll-Cond, ind-Cond, map-Cond, roll-Cond}
 use Rattle.og_query.specs.declared.condition.Cond.TheVariants.{And, Or, Not, Compare, Relate, Empty, Contains, rolls-And, rolls-Or, rolls-Not, rolls-Compare, rolls-Relate, rolls-Empty, rolls-Contains}
 use Rattle.og_query.specs.declared.condition.Cond.TheOpen as c
 
 -- what holds of each of some things with a proof beside them
-each_of : {A : Type 0} (P : A → Type 0) (xs : List ((x : A) × P x)) → AllByRecursion P (map (λ e. e.0) xs)
+pub each_of : {A : Type 0} (P : A → Type 0) (xs : List ((x : A) × P x)) → AllByRecursion P (map (λ e. e.0) xs)
 each_of P [] = tt
 each_of P (x ∷ xs) = (x.1, each_of P xs)
 
@@ -38,48 +39,64 @@ induction-Expr P column lit call = ind-Expr P (λ x y is. subst (λ z. P (roll-E
     at (e.Lit value) = subst P (sym (rolls-Lit value)) (lit value)
     at (e.Call func args) = subst P (sym (rolls-Call func (map (λ x. x.0) args))) (call func (map (λ x. x.0) args) (each_of P args))
 
+-- induction over conditions: what holds of each that has no condition in it, and of each of whose conditions it holds, holds of all
+pub induction-Cond : (P : Cond → Type 0)
+    → ((conds : List Cond) → AllByRecursion P conds → P (And conds)) → ((conds : List Cond) → AllByRecursion P conds → P (Or conds)) → ((cond : Cond) → P cond → P (Not cond))
+    → ((op : Cmp) (left right : Expr) → P (Compare op left right)) → ((pred : Pred) (left right : Expr) → P (Relate pred left right))
+    → ((period : Expr) → P (Empty period)) → ((period day : Expr) → P (Contains period day)) → (cond : Cond) → P cond
+induction-Cond P and or not compare relate empty contains = ind-Cond P (λ x y is. subst (λ z. P (roll-Cond z)) is (at y))
+  where
+    at : (y : c.Cond-F ((cond : Cond) × P cond)) → P (roll-Cond (map-Cond ((cond : Cond) × P cond) Cond (λ x. x.0) y))
+    at (c.And conds) = subst P (sym (rolls-And (map (λ x. x.0) conds))) (and (map (λ x. x.0) conds) (each_of P conds))
+    at (c.Or conds) = subst P (sym (rolls-Or (map (λ x. x.0) conds))) (or (map (λ x. x.0) conds) (each_of P conds))
+    at (c.Not cond) = subst P (sym (rolls-Not cond.0)) (not cond.0 cond.1)
+    at (c.Compare op left right) = subst P (sym (rolls-Compare op left right)) (compare op left right)
+    at (c.Relate pred left right) = subst P (sym (rolls-Relate pred left right)) (relate pred left right)
+    at (c.Empty period) = subst P (sym (rolls-Empty period)) (empty period)
+    at (c.Contains period day) = subst P (sym (rolls-Contains period day)) (contains period day)
+
 -- a fold over expressions
 module _ {A : Type 0} (step : e.Expr-F A → A) where
   -- of a column
-  fold-Column : (place : ℕ) → fold-Expr A step (Column place) ≡ step (e.Column place)
+  pub fold-Column : (place : ℕ) → fold-Expr A step (Column place) ≡ step (e.Column place)
   fold-Column place = ap (fold-Expr A step) (sym (rolls-Column place)) ∙ fold-roll-Expr A step (e.Column place)
 
   -- of a literal
-  fold-Lit : (value : Value) → fold-Expr A step (Lit value) ≡ step (e.Lit value)
+  pub fold-Lit : (value : Value) → fold-Expr A step (Lit value) ≡ step (e.Lit value)
   fold-Lit value = ap (fold-Expr A step) (sym (rolls-Lit value)) ∙ fold-roll-Expr A step (e.Lit value)
 
   -- of a call
-  fold-Call : (func : Func) (args : List Expr) → fold-Expr A step (Call func args) ≡ step (e.Call func (map (fold-Expr A step) args))
+  pub fold-Call : (func : Func) (args : List Expr) → fold-Expr A step (Call func args) ≡ step (e.Call func (map (fold-Expr A step) args))
   fold-Call func args = ap (fold-Expr A step) (sym (rolls-Call func args)) ∙ fold-roll-Expr A step (e.Call func args)
 
 -- a fold over conditions
 module _ {A : Type 0} (step : c.Cond-F A → A) where
   -- of AND
-  fold-And : (parts : List Cond) → fold-Cond A step (And parts) ≡ step (c.And (map (fold-Cond A step) parts))
+  pub fold-And : (parts : List Cond) → fold-Cond A step (And parts) ≡ step (c.And (map (fold-Cond A step) parts))
   fold-And parts = ap (fold-Cond A step) (sym (rolls-And parts)) ∙ fold-roll-Cond A step (c.And parts)
 
   -- of OR
-  fold-Or : (parts : List Cond) → fold-Cond A step (Or parts) ≡ step (c.Or (map (fold-Cond A step) parts))
+  pub fold-Or : (parts : List Cond) → fold-Cond A step (Or parts) ≡ step (c.Or (map (fold-Cond A step) parts))
   fold-Or parts = ap (fold-Cond A step) (sym (rolls-Or parts)) ∙ fold-roll-Cond A step (c.Or parts)
 
   -- of NOT
-  fold-Not : (part : Cond) → fold-Cond A step (Not part) ≡ step (c.Not (fold-Cond A step part))
+  pub fold-Not : (part : Cond) → fold-Cond A step (Not part) ≡ step (c.Not (fold-Cond A step part))
   fold-Not part = ap (fold-Cond A step) (sym (rolls-Not part)) ∙ fold-roll-Cond A step (c.Not part)
 
   -- of a comparison
-  fold-Compare : (op : Cmp) (left right : Expr) → fold-Cond A step (Compare op left right) ≡ step (c.Compare op left right)
+  pub fold-Compare : (op : Cmp) (left right : Expr) → fold-Cond A step (Compare op left right) ≡ step (c.Compare op left right)
   fold-Compare op left right = ap (fold-Cond A step) (sym (rolls-Compare op left right)) ∙ fold-roll-Cond A step (c.Compare op left right)
 
   -- of a predicate
-  fold-Relate : (pred : Pred) (left right : Expr) → fold-Cond A step (Relate pred left right) ≡ step (c.Relate pred left right)
+  pub fold-Relate : (pred : Pred) (left right : Expr) → fold-Cond A step (Relate pred left right) ≡ step (c.Relate pred left right)
   fold-Relate pred left right = ap (fold-Cond A step) (sym (rolls-Relate pred left right)) ∙ fold-roll-Cond A step (c.Relate pred left right)
 
   -- of EMPTY
-  fold-Empty : (period : Expr) → fold-Cond A step (Empty period) ≡ step (c.Empty period)
+  pub fold-Empty : (period : Expr) → fold-Cond A step (Empty period) ≡ step (c.Empty period)
   fold-Empty period = ap (fold-Cond A step) (sym (rolls-Empty period)) ∙ fold-roll-Cond A step (c.Empty period)
 
   -- of CONTAINS
-  fold-Contains : (period day : Expr) → fold-Cond A step (Contains period day) ≡ step (c.Contains period day)
+  pub fold-Contains : (period day : Expr) → fold-Cond A step (Contains period day) ≡ step (c.Contains period day)
   fold-Contains period day = ap (fold-Cond A step) (sym (rolls-Contains period day)) ∙ fold-roll-Cond A step (c.Contains period day)
 
 -- the value of an expression

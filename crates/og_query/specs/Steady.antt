@@ -1,27 +1,13 @@
 -- Which trees are the same on all days: each of their points is a fixed day.
 use Rattle.std.specs.Prelude.{◌&&◌, Bool, true}
 use Rattle.std.specs.List.{list_all}
-use Rattle.std.specs.Ordering.{int_eq}
-use Rattle.og_time.specs.Point.{Point}
-use Rattle.og_value.specs.declared.value.Value.{Value}
-use Rattle.og_value.specs.declared.value.Value.TheVariants as v
+use Rattle.og_value.specs.Steady.{is_steady_value}
 use Rattle.og_query.specs.declared.expression.Expr.{Expr, fold-Expr}
 use Rattle.og_query.specs.declared.expression.Expr.TheOpen as e
 use Rattle.og_query.specs.declared.condition.Cond.{Cond, fold-Cond}
 use Rattle.og_query.specs.declared.condition.Cond.TheOpen as c
 use Rattle.og_query.specs.declared.query.Core.{Core}
 use Rattle.og_query.specs.declared.query.Query.{Query}
-
--- a point X+X
-abbrev pub is_fixed : Point → Bool
-is_fixed p = int_eq p.low p.high
-
--- a value without `now` in it
-abbrev pub is_steady_value : Value → Bool
-is_steady_value (v.Int n) = true
-is_steady_value (v.Text t) = true
-is_steady_value (v.Point p) = is_fixed p
-is_steady_value (v.Period i) = is_fixed i.start && is_fixed i.end
 
 -- one expression, with whether each argument is steady in its place
 abbrev pub steady_step : e.Expr-F Bool → Bool

@@ -19,7 +19,7 @@ mod walk;
 
 pub use condition::Cond;
 pub use evaluator::ordinary;
-pub use expression::Expr;
+pub use expression::{Expr, copy_expressions};
 pub use laws::{
     answers_are_sets, answers_keep_the_size, fitting_values, one_condition_after_the_other,
     tables_in_either_order,

@@ -6,8 +6,6 @@ ghost use Rattle.og_query.specs.Steady as meant;
 use crate::condition::Cond;
 use crate::expression::Expr;
 use crate::query::{Core, Query, Rest, Semi};
-use og_time::OngoingPoint;
-use og_value::Value;
 use sqlite_items::Items;
 
 impl Query {
@@ -81,7 +79,7 @@ fn is_steady_expr(expr: &Expr) -> bool
 {
     match expr {
         Expr::Column(_) => true,
-        Expr::Lit(value) => is_steady_value(value),
+        Expr::Lit(value) => value.is_steady(),
         Expr::Call { args, .. } => are_steady_exprs(args),
     }
 }
@@ -97,22 +95,4 @@ fn are_steady_exprs(all: &Items<Expr>) -> bool
         }
     }
     true
-}
-
-// Whether the value is the same on all days.
-fn is_steady_value(value: &Value) -> bool
-    ensures { result ≡ meant.is_steady_value value.now }
-{
-    match value {
-        Value::Int(_) | Value::Text(_) => true,
-        Value::Point(point) => is_fixed(*point),
-        Value::Period(period) => is_fixed(period.start()) && is_fixed(period.end()),
-    }
-}
-
-// Whether the point is a fixed day.
-fn is_fixed(point: OngoingPoint) -> bool
-    ensures { result ≡ meant.is_fixed point }
-{
-    point.low() == point.high()
 }

@@ -3,9 +3,10 @@ ghost use Rattle.std.specs.Prelude.{◌≡◌, ◌++◌, ℤ, IfOk, OnOk, true, 
 ghost use Rattle.std.specs.List.{list_all};
 ghost use Rattle.og_time.specs.FixedOperations.{least_of, greatest_of, common_of};
 ghost use Rattle.og_time.specs.Point.{point_at};
+ghost use Rattle.og_value.specs.Steady.{is_fixed, is_steady_value};
 ghost use Rattle.og_value.specs.Values.{value_at};
 ghost use Rattle.og_query.specs.Expressions.{no_value, call_of, meaning};
-ghost use Rattle.og_query.specs.Steady.{is_fixed, is_steady_value, is_steady_expr};
+ghost use Rattle.og_query.specs.Steady.{is_steady_expr};
 
 use crate::expression::Expr;
 use og_base::{ExtDay, FixedPeriod, NoMemory};
