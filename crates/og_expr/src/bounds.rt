@@ -40,7 +40,7 @@ pub(crate) fn may_hold(cond: &Cond, columns: &Columns<'_>) -> bool
 
 // Whether each of the conditions may hold of the columns.
 #[cycle(bounds)]
-fn all_may_hold(parts: &Items<Cond>, columns: &Columns<'_>) -> bool
+pub(crate) fn all_may_hold(parts: &Items<Cond>, columns: &Columns<'_>) -> bool
     ensures { result ≡ false → (d : ℤ) → IsRefDay d → list_all (truth d (row_at columns.now d)) parts.now ≡ false }
 {
     'parts: for part in parts.as_slice() {

@@ -6,7 +6,7 @@ ghost use Rattle.og_base.specs.Ranges.{holds_day};
 ghost use Rattle.og_value.specs.Values.{row_at};
 ghost use Rattle.og_query.specs.Conditions.{truth};
 
-use crate::bounds::may_hold;
+use crate::bounds::{all_may_hold, may_hold};
 use crate::columns::Columns;
 use crate::comparisons::{compare_days, contain_days, empty_days, relate_days};
 use crate::values::value;
@@ -40,6 +40,35 @@ impl DayCond<Row> for CondDays<'_> {
 
     fn may_hold(&self, left: &Row, right: &Row) -> bool {
         may_hold(self.cond, &Columns { left, right })
+    }
+}
+
+/// All of some conditions, as the days on which they hold of a row.
+#[derive(Drop)]
+pub struct PartDays<'a> {
+    pub parts: &'a Items<Cond>,
+}
+
+impl DayCond<Row> for PartDays<'_> {
+    ghost use Rattle.std.specs.List.{list_all};
+
+    ghost holds = { λ c d row. list_all (truth d row) c.parts.now };
+
+    fn days(&self, alloc: Global, row: &Row) -> Result<RtSet, NoMemory> {
+        let none = Row::of(Vec::new(alloc));
+        let columns = Columns {
+            left: row,
+            right: &none,
+        };
+        all_days(alloc, self.parts, &columns)
+    }
+
+    fn days_of_pair(&self, alloc: Global, left: &Row, right: &Row) -> Result<RtSet, NoMemory> {
+        all_days(alloc, self.parts, &Columns { left, right })
+    }
+
+    fn may_hold(&self, left: &Row, right: &Row) -> bool {
+        all_may_hold(self.parts, &Columns { left, right })
     }
 }
 

@@ -10,5 +10,6 @@ mod items;
 mod tests;
 mod values;
 
-pub use conditions::CondDays;
+pub use conditions::{CondDays, PartDays};
 pub use items::ItemMap;
+pub use values::value_on;

@@ -8,7 +8,7 @@ use crate::columns::Columns;
 use og_base::NoMemory;
 use og_query::Expr;
 use og_time::OngoingPeriod;
-use og_value::{Func, Value};
+use og_value::{Func, Row, Value};
 use std::alloc::Global;
 
 // The function of the values, and the number 0 where it does not take values of these kinds.
@@ -43,6 +43,18 @@ fn column(columns: &Columns<'_>, place: usize) -> Result<Value, NoMemory>
         Some(value) => value.copy(),
         None => Ok(Value::Int(0)),
     }
+}
+
+/// The value that is, on each day, the value of the expression on the row of that day.
+pub fn value_on(alloc: Global, expr: &Expr, row: &Row) -> Result<Value, NoMemory>
+    ensures { IfOk result (λ v. (d : ℤ) → IsRefDay d → value_at v d ≡ meaning d (row_at row.now d) expr.now) }
+{
+    let none = Row::of(Vec::new(alloc));
+    let columns = Columns {
+        left: row,
+        right: &none,
+    };
+    value(alloc, expr, &columns)
 }
 
 // The value of the expression on the columns.
