@@ -1,3 +1,5 @@
+pub mod BlockLemmas
+pub mod HitLemmas
 pub mod JoinedLemmas
 pub mod OverlapJoinLemmas
 pub mod OverlapLemmas

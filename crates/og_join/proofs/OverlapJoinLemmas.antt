@@ -1,23 +1,23 @@
--- The law of the overlap join: what is made of the pairs of places that overlap has the rows of the join.
-use Rattle.std.proofs.Common.{◌≡◌, ◌≤◌, ◌*◌, ◌&&◌, ℕ, ℤ, Bool, true, false, List, length, map, filter, int_lt, Ordering, IsPermutation, refl, sym, subst, ap, ap₂, ◌∙◌, arith}
+-- The law of the overlap join: the rows of the left spans that overlap right ones are those of the join.
+use Rattle.std.proofs.Common.{◌≡◌, ◌≤◌, ◌*◌, ◌&&◌, ℕ, ℤ, Bool, true, false, List, int_lt, Ordering, refl, sym, ap, ap₂, ◌∙◌, arith}
 use Rattle.std.specs.List.{All, list_any}
 use Rattle.std.proofs.Math.Bool.{and-false}
-use Rattle.std.proofs.lemmas.List.Sorted.{list_any-IsPermutation, length_permutation}
 use Rattle.og_base.specs.Calendar.{IsRefDay}
 use Rattle.og_base.specs.Ranges.{Range, holds_day}
 use Rattle.og_base.specs.Set.{IsExactOrder, set_of}
 use Rattle.og_base.specs.declared.comparison.Outer.{Outer}
 use Rattle.og_base.specs.declared.range.FixedPeriod.{FixedPeriod}
 use Rattle.og_base.proofs.BoundaryLemmas.{int_lt-yes}
-use Rattle.og_base.proofs.SetMembers.{list_any-map, list_any-filter}
 use Rattle.og_rel.specs.Relations.{present, relation_at}
-use Rattle.og_rel.proofs.AlgebraLemmas.{same_set_by_tests, list_any-flat_map}
+use Rattle.og_rel.proofs.AlgebraLemmas.{same_set_by_tests}
 use Rattle.og_rel.proofs.PresentLemmas.{list_any-relation_at}
 use Rattle.og_join.specs.Joined.{joined, DoOverlap, AreTold}
-use Rattle.og_join.specs.Overlaps.{overlap, overlaps}
+use Rattle.og_join.specs.Overlaps.{overlap}
 use Rattle.og_join.specs.Places.{is_at}
-use Rattle.og_join.specs.Tried.{has_days, at_row, has_span, AreSpansOf, do_meet, rows_meet, spans_meet}
-use Rattle.og_join.proofs.PlaceTests.{same_test, list_any-and, list_any-known, is_at-and, list_any-is_at, list_any-overlaps, length-overlaps}
+use Rattle.og_join.specs.Tried.{has_days, at_row, has_span, AreSpansOf, do_meet, rows_meet, meets_some, AreJoined}
+use Rattle.og_ops.proofs.RowLemmas.{any_alike}
+use Rattle.og_join.proofs.JoinedLemmas.{list_any-joined}
+use Rattle.og_join.proofs.PlaceTests.{same_test, list_any-and, list_any-known, is_at-and, list_any-is_at}
 
 -- the third of four truths
 third : (h k c m : Bool) → (((h && k) && c) && m) ≡ true → c ≡ true
@@ -44,13 +44,10 @@ module _ {R F : Type 0} (glued : F → F → F) (at : R → ℤ → F) (holds : 
 
   module _ (left_span right_span : R → FixedPeriod) (ls rs : List Outer)
       (lefts : AreSpansOf left_span left ls) (rights : AreSpansOf right_span right rs) where
-    -- a test of the pairs of spans that overlap is a test of the rows that have them
-    any_pair : list_any (λ p. spans_meet glued at holds left right ls rs p t d) (overlaps (λ o. o.lo) (λ o. o.hi) 0 0 ls rs)
-        ≡ list_any (has_span left_span (λ lo hi p. list_any (has_span right_span (both lo hi p)) right)) left
+    -- a test of the left spans that overlap some right one is a test of the rows that have them
+    any_pair : list_any (meets_some glued at holds left right rs t d) ls ≡ list_any (has_span left_span (λ lo hi p. list_any (has_span right_span (both lo hi p)) right)) left
     any_pair =
-        list_any-overlaps (λ o. o.lo) (λ o. o.hi) (λ p. spans_meet glued at holds left right ls rs p t d) (λ a b. rows_meet glued at holds left right a.row b.row t d) 0 0 ls rs
-        (λ m k. ap₂ (λ i j. spans_meet glued at holds left right ls rs (i, j) t d) (omega arith) (omega arith))
-        ∙ ap (λ test. list_any test ls) (same_test _ _ each)
+        ap (λ test. list_any test ls) (same_test _ _ each)
         ∙ lefts (λ lo hi p. list_any (has_span right_span (both lo hi p)) right)
       where
         within : (a b : Outer) → (overlap (λ o. o.lo) (λ o. o.hi) a b && rows_meet glued at holds left right a.row b.row t d)
@@ -59,7 +56,7 @@ module _ {R F : Type 0} (glued : F → F → F) (at : R → ℤ → F) (holds : 
             is_at-and (overlap (λ o. o.lo) (λ o. o.hi) a b) (λ p. is_at (do_meet glued at holds t d p) right b.row) left a.row
             ∙ ap (λ test. is_at test left a.row) (same_test _ _ (λ p. is_at-and (overlap (λ o. o.lo) (λ o. o.hi) a b) (do_meet glued at holds t d p) right b.row))
 
-        each : (a : Outer) → list_any (λ b. overlap (λ o. o.lo) (λ o. o.hi) a b && rows_meet glued at holds left right a.row b.row t d) rs
+        each : (a : Outer) → meets_some glued at holds left right rs t d a
             ≡ at_row (λ lo hi p. list_any (has_span right_span (both lo hi p)) right) left a
         each a =
             ap (λ test. list_any test rs) (same_test _ _ (within a))
@@ -93,42 +90,28 @@ module _ {R F : Type 0} (glued : F → F → F) (at : R → ℤ → F) (holds : 
   any_joined : {cmp : F → F → Ordering} → IsExactOrder cmp
       → list_any t (joined glued (λ x y. holds d (glued x y)) (relation_at cmp at left d) (relation_at cmp at right d)) ≡ list_any (λ p. list_any (do_meet glued at holds t d p) right) left
   any_joined {cmp = cmp} o =
-      list_any-flat_map t (λ x. map (glued x) (filter (λ y. holds d (glued x y)) (relation_at cmp at right d))) (relation_at cmp at left d)
+      list_any-joined glued (λ x y. holds d (glued x y)) t (relation_at cmp at left d) (relation_at cmp at right d)
       ∙ list_any-relation_at o at _ left d
-      ∙ ap (λ test. list_any test left) (same_test _ _ row)
+      ∙ any_alike _ _ left row
     where
-      row : (p : R × List Range) → (holds_day p.1 d && list_any t (map (glued (at p.0 d)) (filter (λ y. holds d (glued (at p.0 d) y)) (relation_at cmp at right d)))) ≡ list_any (do_meet glued at holds t d p) right
+      row : (p : R × List Range) → (holds_day p.1 d && list_any (λ y. holds d (glued (at p.0 d) y) && t (glued (at p.0 d) y)) (relation_at cmp at right d)) ≡ list_any (do_meet glued at holds t d p) right
       row p =
-          ap (λ b. holds_day p.1 d && b)
-          (list_any-map t (glued (at p.0 d)) (filter (λ y. holds d (glued (at p.0 d) y)) (relation_at cmp at right d))
-          ∙ list_any-filter (λ y. t (glued (at p.0 d) y)) (λ y. holds d (glued (at p.0 d) y)) (relation_at cmp at right d)
-          ∙ list_any-relation_at o at (λ y. holds d (glued (at p.0 d) y) && t (glued (at p.0 d) y)) right d)
+          ap (λ b. holds_day p.1 d && b) (list_any-relation_at o at (λ y. holds d (glued (at p.0 d) y) && t (glued (at p.0 d) y)) right d)
           ∙ list_any-and (holds_day p.1 d) (λ q. holds_day q.1 d && (holds d (glued (at p.0 d) (at q.0 d)) && t (glued (at p.0 d) (at q.0 d)))) right
-          ∙ ap (λ test. list_any test right) (same_test _ _ (λ q. and_across (holds_day p.1 d) (holds_day q.1 d) (holds d (glued (at p.0 d) (at q.0 d))) (t (glued (at p.0 d) (at q.0 d)))))
+          ∙ any_alike _ _ right (λ q. and_across (holds_day p.1 d) (holds_day q.1 d) (holds d (glued (at p.0 d) (at q.0 d))) (t (glued (at p.0 d) (at q.0 d))))
 
--- where the rows of a relation pass the tests that the pairs of places do which overlap, it is the join on the day
+-- where a relation is that of the left spans that overlap right ones, it is the join on the day
 pub overlap_law : {R F : Type 0} {cmp : F → F → Ordering} → IsExactOrder cmp → (glued : F → F → F) (at : R → ℤ → F) (holds : ℤ → F → Bool) (left_span right_span : R → FixedPeriod)
-    (left right made : List (R × List Range)) (ls rs : List Outer) (places : List (ℕ × ℕ)) (d : ℤ) → IsRefDay d
-    → AreSpansOf left_span left ls → AreSpansOf right_span right rs → IsPermutation places (overlaps (λ o. o.lo) (λ o. o.hi) 0 0 ls rs)
-    → ((t : F → Bool) → list_any t (present at made d) ≡ list_any (λ p. spans_meet glued at holds left right ls rs p t d) places)
-    → AreTold glued at holds left_span right_span left right
+    (left right made : List (R × List Range)) (ls rs : List Outer) (d : ℤ) → IsRefDay d
+    → AreSpansOf left_span left ls → AreSpansOf right_span right rs → AreJoined glued at holds left right rs ls made → AreTold glued at holds left_span right_span left right
     → relation_at cmp at made d ≡ set_of cmp (joined glued (λ x y. holds d (glued x y)) (relation_at cmp at left d) (relation_at cmp at right d))
-overlap_law {cmp = cmp} o glued at holds left_span right_span left right made ls rs places d r lefts rights moved met told =
+overlap_law {cmp = cmp} o glued at holds left_span right_span left right made ls rs d r lefts rights rows told =
     same_set_by_tests o (present at made d) (joined glued (λ x y. holds d (glued x y)) (relation_at cmp at left d) (relation_at cmp at right d))
-    (λ t. met t
-    ∙ list_any-IsPermutation (λ p. spans_meet glued at holds left right ls rs p t d) _ _ moved
+    (λ t. rows t d r
     ∙ any_pair glued at holds left right t d left_span right_span ls rs lefts rights
     ∙ any_told glued at holds left right t d left_span right_span ls rs lefts rights r told
     ∙ sym (any_joined glued at holds left right t d o))
 
--- at most the product of rows is made of the pairs of places that overlap
-pub overlap_size : (made hits places lefts rights n m : ℕ) → made ≤ hits → hits ≤ places → places ≤ lefts * rights → lefts ≤ n → rights ≤ m → made ≤ n * m
-overlap_size made hits places lefts rights n m a b c e f = omega (arith, a, b, c, monotone)
-  where
-    monotone : lefts * rights ≤ n * m
-    monotone = grind (arith, e, f)
-
--- as many places as of spans that overlap are at most the product of spans
-pub places_size : (ls rs : List Outer) (places given : List (ℕ × ℕ)) → given ≡ places → IsPermutation places (overlaps (λ o. o.lo) (λ o. o.hi) 0 0 ls rs) → length given ≤ length ls * length rs
-places_size ls rs places given e moved =
-    subst (λ n. n ≤ length ls * length rs) (length_permutation _ _ moved ∙ sym (ap length e)) (length-overlaps (λ o. o.lo) (λ o. o.hi) 0 0 ls rs)
+-- at most the product of rows is made of spans, of which there are no more than rows
+pub overlap_size : (made lefts rights n m : ℕ) → made ≤ lefts * rights → lefts ≤ n → rights ≤ m → made ≤ n * m
+overlap_size made lefts rights n m h l r = grind (arith, h, l, r)

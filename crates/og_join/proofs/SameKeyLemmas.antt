@@ -11,10 +11,9 @@ use Rattle.og_base.specs.Ranges.{Range, holds_day}
 use Rattle.og_base.specs.Set.{IsExactOrder, set_of}
 use Rattle.og_par.specs.Phase.{MadeOfEach}
 use Rattle.og_par.proofs.PhaseLemmas.{MadeOfEach-shown}
-use Rattle.og_rel.specs.Relations.{present, relation_at, stored}
+use Rattle.og_rel.specs.Relations.{present, relation_at}
 use Rattle.og_rel.proofs.AlgebraLemmas.{length-filter_le}
-use Rattle.og_rel.proofs.PresentLemmas.{at_place, present-append, present-more, present-stored}
-use Rattle.og_ops.proofs.RowLemmas.{length-stored}
+use Rattle.og_rel.proofs.PresentLemmas.{at_place, present-append, present-more}
 use Rattle.og_ops.specs.Days.{is_hit, OnNoDay}
 use Rattle.og_ops.specs.Lending.{lent}
 use Rattle.og_ops.specs.declared.pair.Hit.{Hit}
@@ -23,13 +22,8 @@ use Rattle.og_join.specs.Hits.{stored_hits}
 use Rattle.og_join.specs.Joined.{joined}
 use Rattle.og_join.specs.SameKey.{AreHits, HaveDayKeys, joined_same_key}
 use Rattle.og_join.specs.declared.same_key.SameKey.{SameKey}
+use Rattle.og_join.proofs.HitLemmas.{length-stored_hits, present-hits, present-hit}
 use Rattle.og_join.proofs.JoinedLemmas.{ties_turned, joined-append, one_joined-append, one_joined-nil, joined-one, set_of-joined}
-
--- no more rows are stored than there are hits
-pub length-stored_hits : {R : Type 0} (hits : List (Hit R)) → length (stored_hits hits) ≤ length hits
-length-stored_hits [] = omega arith
-length-stored_hits (h ∷ hits) =
-    omega (arith, length-append (stored h.row h.days) (stored_hits hits), length-stored h.row h.days, length-stored_hits hits)
 
 -- one more row that is lent
 lent-more : {R K : Type 0} (rows : List (KeyedRow R K)) (i : ℕ) (s : KeyedRow R K) → i < length rows → s ≡ get_or rows i s → lent (take (i + 1) rows) ≡ lent (take i rows) ++ (s.row.now, s.days.now) ∷ []
@@ -37,14 +31,6 @@ lent-more rows i s l e =
     ap lent (take_more rows i s l ∙ ap (λ q. take i rows ++ q ∷ []) (sym e)) ∙ map-append (λ q. (q.row.now, q.days.now)) (take i rows) (s ∷ [])
 
 module _ {R F : Type 0} (at : R → ℤ → F) where
-  -- the stored rows of a day of hits, one after the other
-  present-hits : (d : ℤ) (a b : List (Hit R)) → present at (stored_hits (a ++ b)) d ≡ present at (stored_hits a) d ++ present at (stored_hits b) d
-  present-hits d a b = ap (λ rel. present at rel d) (flat_map-append (λ h. stored h.row h.days) a b) ∙ present-append at (stored_hits a) (stored_hits b) d
-
-  -- the stored row of a day of one hit
-  present-hit : (d : ℤ) (h : Hit R) → present at (stored_hits (h ∷ [])) d ≡ (if holds_day h.days d then at h.row d ∷ [] else [])
-  present-hit d h = ap (λ rel. present at rel d) (append-nil (stored h.row h.days)) ∙ present-stored at h.row h.days d
-
   module _ (glued : F → F → F) (holds : ℤ → F → Bool) (row : R) (days : List Range) where
     -- without others there are no hits
     pub AreHits-nil : AreHits glued holds at row days [] []
@@ -54,7 +40,7 @@ module _ {R F : Type 0} (at : R → ℤ → F) where
     AreHits-append : (xs ys : List (R × List Range)) (a b : List (Hit R)) → AreHits glued holds at row days xs a → AreHits glued holds at row days ys b → AreHits glued holds at row days (xs ++ ys) (a ++ b)
     AreHits-append xs ys a b h k = record {
       law = λ d r.
-          present-hits d a b ∙ ap₂ (λ us vs. us ++ vs) (h.law d r) (k.law d r)
+          present-hits at d a b ∙ ap₂ (λ us vs. us ++ vs) (h.law d r) (k.law d r)
           ∙ sym (one_joined-append glued (λ x y. holds d (glued x y)) (at row d) (holds_day days d) (present at xs d) (present at ys d))
           ∙ ap (joined glued (λ x y. holds d (glued x y)) (present at ((row, days) ∷ []) d)) (sym (present-append at xs ys d));
       size = omega (arith, length-append a b, length-append xs ys, h.size, k.size);
@@ -75,7 +61,7 @@ module _ {R F : Type 0} (at : R → ℤ → F) where
         → ((d : ℤ) → IsRefDay d → holds_day h.days d ≡ is_hit glued holds (at row) (at other) days other_days d) → AreHits glued holds at row days ((other, other_days) ∷ []) (h ∷ [])
     AreHits-one other other_days h row_is days_are = record {
       law = λ d r.
-          present-hit d h
+          present-hit at d h
           ∙ joined-one glued (λ x y. holds d (glued x y)) (at row d) (at other d) (at h.row d) (holds_day days d) (holds_day other_days d) (holds_day h.days d) (row_is d r) (days_are d r);
       size = omega arith;
     }

@@ -1,41 +1,26 @@
 -- What is made of two rows that are tried, and of all pairs of places that are.
-use Rattle.std.proofs.Common.{◌≡◌, ◌<◌, ◌≤◌, ◌++◌, ◌&&◌, ◌||◌, ℕ, ℤ, Bool, true, false, List, [], ◌∷◌, length, get_or, if◌then◌else◌, refl, sym, ap, ap₂, ◌∙◌, arith}
+use Rattle.std.proofs.Common.{◌≡◌, ◌<◌, ◌≤◌, ◌&&◌, ◌||◌, ℕ, ℤ, Bool, true, false, List, [], ◌∷◌, length, get_or, if◌then◌else◌, refl, sym, ap, ap₂, ◌∙◌, arith}
 use Rattle.std.specs.List.{list_any}
-use Rattle.std.proofs.lemmas.Grind.{flat_map-append}
-use Rattle.std.proofs.lemmas.List.{append-nil, length-append}
-use Rattle.std.proofs.lemmas.List.Concat.{flat_map-cons}
+use Rattle.std.proofs.lemmas.List.{length-append}
 use Rattle.std.proofs.lemmas.List.Folds.{list_any-append}
 use Rattle.og_base.specs.Calendar.{IsRefDay}
 use Rattle.og_base.specs.Ranges.{Range, holds_day}
 use Rattle.og_base.specs.declared.comparison.Outer.{Outer}
 use Rattle.og_ops.specs.declared.pair.Hit.{Hit}
 use Rattle.og_ops.specs.Days.{is_hit}
-use Rattle.og_ops.proofs.RowLemmas.{length-stored}
 use Rattle.og_par.specs.Phase.{MadeOfEach}
-use Rattle.og_rel.specs.Relations.{present, stored}
-use Rattle.og_rel.proofs.PresentLemmas.{present-append, present-stored}
+use Rattle.og_rel.specs.Relations.{present}
 use Rattle.og_join.specs.Hits.{stored_hits}
 use Rattle.og_join.specs.Places.{is_at}
 use Rattle.og_join.specs.Tried.{do_meet, rows_meet, IsMadeOf}
+use Rattle.og_join.proofs.HitLemmas.{present-hits, present-hit}
 use Rattle.og_join.proofs.PlaceTests.{at_both-get}
-
--- hits one after the other
-stored_hits-append : {R : Type 0} (a b : List (Hit R)) → stored_hits (a ++ b) ≡ stored_hits a ++ stored_hits b
-stored_hits-append a b = flat_map-append (λ h. stored h.row h.days) a b
-
--- at most one row for each hit
-pub length-stored_hits : {R : Type 0} (hits : List (Hit R)) → length (stored_hits hits) ≤ length hits
-length-stored_hits [] = omega arith
-length-stored_hits (h ∷ hits) =
-    let all = ap length (flat_map-cons (λ k. stored k.row k.days) h hits) ∙ length-append (stored h.row h.days) (stored_hits hits) in
-    omega (arith, all, length-stored h.row h.days, length-stored_hits hits)
 
 module _ {R F : Type 0} (at : R → ℤ → F) where
   -- a test of the row of a hit, on its days
   pub any_hit : (h : Hit R) (t : F → Bool) (d : ℤ) (met : Bool) (x : F) → holds_day h.days d ≡ met → at h.row d ≡ x → list_any t (present at (stored_hits (h ∷ [])) d) ≡ (met && t x)
   any_hit h t d met x days row =
-      ap (λ rel. list_any t (present at rel d)) (flat_map-cons (λ k. stored k.row k.days) h [] ∙ append-nil (stored h.row h.days))
-      ∙ ap (list_any t) (present-stored at h.row h.days d)
+      ap (list_any t) (present-hit at d h)
       ∙ one (holds_day h.days d) ∙ ap₂ (λ m y. m && t y) days row
     where
       or_false : (b : Bool) → (b || false) ≡ b
@@ -51,8 +36,8 @@ module _ {R F : Type 0} (at : R → ℤ → F) where
       → (t : F → Bool) (d : ℤ) → IsRefDay d → list_any t (present at (stored_hits hits) d) ≡ list_any (λ p. meet p t d) places
   any_made meet [] hits m t d r = ap (λ all. list_any t (present at (stored_hits all) d)) m
   any_made meet (p ∷ places) hits m t d r =
-      ap (λ rel. list_any t (present at rel d)) (ap stored_hits m.4 ∙ stored_hits-append m.0 m.1)
-      ∙ ap (list_any t) (present-append at (stored_hits m.0) (stored_hits m.1) d)
+      ap (λ all. list_any t (present at (stored_hits all) d)) m.4
+      ∙ ap (list_any t) (present-hits at d m.0 m.1)
       ∙ list_any-append t (present at (stored_hits m.0) d) (present at (stored_hits m.1) d)
       ∙ ap₂ (λ a b. a || b) (m.2.1 t d r) (any_made meet places m.1 m.3 t d r)
 

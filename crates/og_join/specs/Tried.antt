@@ -9,6 +9,7 @@ use Rattle.og_ops.specs.declared.pair.Hit.{Hit}
 use Rattle.og_ops.specs.Days.{is_hit}
 use Rattle.og_rel.specs.Relations.{present}
 use Rattle.og_join.specs.Hits.{stored_hits}
+use Rattle.og_join.specs.Overlaps.{overlap}
 use Rattle.og_join.specs.Places.{is_at}
 
 -- whether the span has days
@@ -39,6 +40,15 @@ rows_meet glued at holds left right m n t d = is_at (λ p. is_at (do_meet glued 
 abbrev pub spans_meet : {R F : Type 0} → (F → F → F) → (R → ℤ → F) → (ℤ → F → Bool) → List (R × List Range) → List (R × List Range) → List Outer → List Outer → ℕ × ℕ → (F → Bool) → ℤ → Bool
 spans_meet glued at holds left right ls rs places t d =
     is_at (λ a. is_at (λ b. rows_meet glued at holds left right a.row b.row t d) rs places.1) ls places.0
+
+-- some of the right spans overlaps the span, and the rows of the two meet
+abbrev pub meets_some : {R F : Type 0} → (F → F → F) → (R → ℤ → F) → (ℤ → F → Bool) → List (R × List Range) → List (R × List Range) → List Outer → (F → Bool) → ℤ → Outer → Bool
+meets_some glued at holds left right rs t d a = list_any (λ b. overlap (λ o. o.lo) (λ o. o.hi) a b && rows_meet glued at holds left right a.row b.row t d) rs
+
+-- on each day some row passes a test where some of the left spans overlaps a right one, and their rows meet and pass it
+abbrev pub AreJoined : {R F : Type 0} → (F → F → F) → (R → ℤ → F) → (ℤ → F → Bool) → List (R × List Range) → List (R × List Range) → List Outer → List Outer → List (R × List Range) → Type 0
+AreJoined {R} {F} glued at holds left right rs ls made =
+    (t : F → Bool) (d : ℤ) → IsRefDay d → list_any t (present at made d) ≡ list_any (meets_some glued at holds left right rs t d) ls
 
 -- at most one row, and on each day it passes the tests that two rows which meet pass
 abbrev pub IsMadeOf : {R F : Type 0} → (R → ℤ → F) → ((F → Bool) → ℤ → Bool) → List (Hit R) → Type 0

@@ -19,8 +19,10 @@ pub trait Keys<R: Instant> {
     /// A key. Its order is total.
     type Key: Ord + Drop;
 
+    /// The key of a left row of a day.
     ghost left_of: { Self → R.Fixed → Self.Key };
 
+    /// The key of a right row of a day.
     ghost right_of: { Self → R.Fixed → Self.Key };
 
     /// The key of the left row, on whichever day.

@@ -2,6 +2,7 @@
 //! spans of their days.
 #![tactic(auto)]
 
+mod blocks;
 mod hits;
 mod keys;
 mod laws;

@@ -1,29 +1,29 @@
 //! The join of two relations on spans that overlap.
-ghost use Rattle.std.specs.Prelude.{◌≡◌, ◌<◌, ◌≤◌, ◌*◌, ℤ, true, IfOk, length};
-ghost use Rattle.std.specs.List.Sorted.{IsPermutation};
+ghost use Rattle.std.specs.Prelude.{◌≡◌, ◌≤◌, ◌*◌, ℤ, IfOk, length};
 ghost use Rattle.og_base.specs.Calendar.{IsRefDay};
 ghost use Rattle.og_base.specs.Set.{set_of};
 ghost use Rattle.og_base.specs.declared.range.FixedPeriod.{FixedPeriod};
 ghost use Rattle.og_rel.specs.Relations.{relation_at};
 ghost use Rattle.og_join.specs.Joined.{joined, AreTold};
-ghost use Rattle.og_join.specs.Overlaps.{Rises, overlaps};
 
-use crate::hits::relation_of;
+use crate::blocks::join_block;
 use crate::outers::{OfLeft, OfRight, rising_spans};
-use crate::sweep::candidates;
 use crate::tries::TryPair;
-use og_base::{DayCond, FixedPeriod, Glue, Instant, NoMemory, Outer, Steps};
-use og_par::{Gate, par_rows};
+use og_base::{DayCond, FixedPeriod, Glue, Instant, NoMemory};
+use og_par::Gate;
 use og_rel::Rel;
 use std::alloc::Global;
-use std::marker::Brand;
-use std::sync::ledger::{Blank, Ledger};
 use std::thread::Threads;
+
+// How many left spans a block has; the last one may have fewer.
+const BLOCK: usize = 16_384;
 
 /// Spans of left and of right rows.
 pub trait Spans<R: Instant> {
+    /// The span of a left row.
     ghost left_of: { Self → R → FixedPeriod };
 
+    /// The span of a right row.
     ghost right_of: { Self → R → FixedPeriod };
 
     /// The span of the left row.
@@ -37,8 +37,9 @@ pub trait Spans<R: Instant> {
 
 /// On every day the glued rows for which the condition holds, where it holds on no day of two rows
 /// whose spans are empty or do not overlap. Rows with an empty span are left out, the others sorted by
-/// the first days of their spans; the pairs whose spans overlap are shared out among the workers and
-/// tried. At most the product of rows. Refused only for want of memory.
+/// the first days of their spans. The left ones are cut into blocks; of each block the pairs whose
+/// spans overlap are shared out among the workers and tried. At most the product of rows. Refused
+/// only for want of memory.
 pub fn overlap_join<
     H: Threads + Sync,
     R: Glue + Drop + Sync + Send,
@@ -67,34 +68,20 @@ where
 {
     let lefts = rising_spans(alloc, left, &OfLeft { spans })?;
     let rights = rising_spans(alloc, right, &OfRight { spans })?;
-    let left_spans = lefts.as_slice();
     let right_spans = rights.as_slice();
-    let pairs = overlapping::<Brand>(alloc, left_spans, right_spans, Blank::new(1))?;
-    let piece = TryPair {
-        left,
-        right,
-        left_spans,
-        right_spans,
-        cond,
-    };
-    let hits = par_rows(rt, alloc, workers, pairs.as_slice(), &piece, gate)?;
-    relation_of(alloc, hits)
-}
-
-// The pairs of places of the spans that overlap, counted by a counter of its own.
-fn overlapping<L: Ledger>(
-    alloc: Global,
-    left: &[Outer],
-    right: &[Outer],
-    blank: Blank,
-) -> Result<Vec<(usize, usize)>, NoMemory>
-    requires name { blank.name ≡ L.name }
-    requires parts { blank.parts ≡ L.parts }
-    requires some { 0 < L.parts }
-    requires left_rises { Rises (λ o. o.lo) left.now }
-    requires right_rises { Rises (λ o. o.lo) right.now }
-    ensures { IfOk result (λ v. IsPermutation v.items (overlaps (λ o. o.lo) (λ o. o.hi) 0 0 left.now right.now)) }
-{
-    let mut steps = Steps::<L>::open(blank);
-    candidates(alloc, left, right, &mut steps)
+    let mut joined = Rel::new(alloc);
+    let mut rest = lefts.as_slice();
+    'cuts: while !rest.is_empty() {
+        let (left_spans, later) = rest.split_at(rest.len().min(BLOCK));
+        let block = TryPair {
+            left,
+            right,
+            left_spans,
+            right_spans,
+            cond,
+        };
+        joined.append(join_block(rt, alloc, workers, &block, gate)?)?;
+        rest = later;
+    }
+    Ok(joined)
 }

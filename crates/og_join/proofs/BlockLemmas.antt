@@ -1,0 +1,89 @@
+-- Blocks of left spans that are joined with all right spans: of one block, and of blocks one after the other.
+use Rattle.std.proofs.Common.{◌≡◌, ◌++◌, ◌+◌, ◌*◌, ◌≤◌, ◌||◌, ◌==◌, ℕ, ℤ, zero, suc, Bool, true, List, [], ◌∷◌, length, take, drop, IsPermutation, refl, sym, ap, ap₂, subst, ◌∙◌, arith}
+use Rattle.std.specs.List.{list_any}
+use Rattle.std.proofs.lemmas.List.{append-nil, append_assoc, length-append, take-append-drop}
+use Rattle.std.proofs.lemmas.List.Folds.{list_any-append}
+use Rattle.std.proofs.lemmas.List.Sorted.{list_any-IsPermutation, length_permutation}
+use Rattle.og_base.specs.Calendar.{IsRefDay}
+use Rattle.og_base.specs.Ranges.{Range}
+use Rattle.og_base.specs.declared.comparison.Outer.{Outer}
+use Rattle.og_rel.specs.Relations.{present}
+use Rattle.og_rel.proofs.PresentLemmas.{present-append}
+use Rattle.og_join.specs.Overlaps.{NoneBelow, Rises, overlaps}
+use Rattle.og_join.specs.Tried.{rows_meet, spans_meet, meets_some, AreJoined}
+use Rattle.og_join.proofs.PlaceTests.{list_any-overlaps, length-overlaps}
+
+module _ {E : Type 0} (lo : E → ℤ) where
+  -- none of the first spans begins before the day
+  NoneBelow-take : (day : ℤ) (xs : List E) (n : ℕ) → NoneBelow lo day xs → NoneBelow lo day (take n xs)
+  NoneBelow-take day xs zero none = tt
+  NoneBelow-take day [] (suc n) none = tt
+  NoneBelow-take day (x ∷ xs) (suc n) none = (none.0, NoneBelow-take day xs n none.1)
+
+  -- the first spans rise too
+  pub Rises-take : (xs : List E) (n : ℕ) → Rises lo xs → Rises lo (take n xs)
+  Rises-take xs zero up = tt
+  Rises-take [] (suc n) up = tt
+  Rises-take (x ∷ xs) (suc n) up = (NoneBelow-take (lo x) xs n up.0, Rises-take xs n up.1)
+
+-- as many places as of spans that overlap are at most the product of spans
+pub places_size : (ls rs : List Outer) (places given : List (ℕ × ℕ)) → given ≡ places → IsPermutation places (overlaps (λ o. o.lo) (λ o. o.hi) 0 0 ls rs) → length given ≤ length ls * length rs
+places_size ls rs places given e moved =
+    subst (λ n. n ≤ length ls * length rs) (length_permutation _ _ moved ∙ sym (ap length e)) (length-overlaps (λ o. o.lo) (λ o. o.hi) 0 0 ls rs)
+
+-- the product with more on the left
+more_size : (made more whole done block both rights : ℕ) → made ≤ done * rights → more ≤ block * rights → whole ≡ made + more → both ≡ done + block → whole ≤ both * rights
+more_size made more whole done block both rights h k e f = grind (arith, h, k, e, f)
+
+-- one more than a number is not none
+not_zero : (n : ℕ) → (suc n == 0) ≡ true → ⊥
+not_zero n e = grind (arith, e)
+
+module _ {R F : Type 0} (glued : F → F → F) (at : R → ℤ → F) (holds : ℤ → F → Bool) (left right : List (R × List Range)) (rs : List Outer) where
+  -- what is made of the pairs of places that overlap is what the left spans are joined to
+  pub joined_of_places : (ls : List Outer) (places : List (ℕ × ℕ)) (made : List (R × List Range)) → IsPermutation places (overlaps (λ o. o.lo) (λ o. o.hi) 0 0 ls rs)
+      → ((t : F → Bool) (d : ℤ) → IsRefDay d → list_any t (present at made d) ≡ list_any (λ p. spans_meet glued at holds left right ls rs p t d) places)
+      → AreJoined glued at holds left right rs ls made
+  joined_of_places ls places made moved met t d r =
+      met t d r
+      ∙ list_any-IsPermutation (λ p. spans_meet glued at holds left right ls rs p t d) _ _ moved
+      ∙ list_any-overlaps (λ o. o.lo) (λ o. o.hi) (λ p. spans_meet glued at holds left right ls rs p t d) (λ a b. rows_meet glued at holds left right a.row b.row t d) 0 0 ls rs
+      (λ m k. ap₂ (λ i j. spans_meet glued at holds left right ls rs (i, j) t d) (omega arith) (omega arith))
+
+  -- what some first spans are joined to, and more spans
+  AreJoined-append : (xs ys : List Outer) (made more : List (R × List Range)) → AreJoined glued at holds left right rs xs made → AreJoined glued at holds left right rs ys more
+      → AreJoined glued at holds left right rs (xs ++ ys) (made ++ more)
+  AreJoined-append xs ys made more h k t d r =
+      ap (list_any t) (present-append at made more d)
+      ∙ list_any-append t (present at made d) (present at more d)
+      ∙ ap₂ (λ a b. a || b) (h t d r) (k t d r)
+      ∙ sym (list_any-append (meets_some glued at holds left right rs t d) xs ys)
+
+  -- of all spans those before the rest are joined, to at most the product of spans
+  pub record IsJoinedUpTo (all rest : List Outer) (made : List (R × List Range)) : Type 0 where
+    pub before : List Outer
+    pub whole : before ++ rest ≡ all
+    pub rows : AreJoined glued at holds left right rs before made
+    pub size : length made ≤ length before * length rs
+
+  -- none is joined yet
+  pub none_joined : (all : List Outer) (made : List (R × List Range)) → made ≡ [] → IsJoinedUpTo all all made
+  none_joined all made e = record { before = []; whole = refl; rows = λ t d r. ap (λ rel. list_any t (present at rel d)) e; size = omega (arith, ap length e) }
+
+  -- one more block is joined, which is cut from the front of the rest
+  pub block_joined : (all rest block later : List Outer) (n : ℕ) (made more new : List (R × List Range)) → block ≡ take n rest → later ≡ drop n rest → new ≡ made ++ more
+      → AreJoined glued at holds left right rs block more → length more ≤ length block * length rs → IsJoinedUpTo all rest made → IsJoinedUpTo all later new
+  block_joined all rest block later n made more new front back e rows size h = record {
+    before = h.before ++ block;
+    whole = append_assoc h.before block later ∙ ap (λ xs. h.before ++ xs) (ap₂ (λ xs ys. xs ++ ys) front back ∙ take-append-drop n rest) ∙ h.whole;
+    rows = λ t d r. ap (λ rel. list_any t (present at rel d)) e ∙ AreJoined-append h.before block made more h.rows rows t d r;
+    size = more_size (length made) (length more) (length new) (length h.before) (length block) (length (h.before ++ block)) (length rs) h.size size (ap length e ∙ length-append made more) (length-append h.before block);
+  }
+
+  -- all are joined
+  pub all_joined : (all rest : List Outer) (made : List (R × List Range)) → (length rest == 0) ≡ true → IsJoinedUpTo all rest made
+      → AreJoined glued at holds left right rs all made × (length made ≤ length all * length rs)
+  all_joined all [] made e h =
+      let is : h.before ≡ all = sym (append-nil h.before) ∙ h.whole in
+      (subst (λ xs. AreJoined glued at holds left right rs xs made) is h.rows, subst (λ xs. length made ≤ length xs * length rs) is h.size)
+  all_joined all (x ∷ xs) made e h = absurd (not_zero (length xs) e)
