@@ -1,3 +1,17 @@
+pub mod KeyLemmas
+pub mod MeaningCores
+pub mod MeaningHeld
+pub mod MeaningHomes
+pub mod MeaningJoins
+pub mod MeaningKeys
+pub mod MeaningParts
+pub mod MeaningPlaces
+pub mod MeaningTrees
 pub mod PartEquations
+pub mod PlanEquations
+pub mod PlanFolds
+pub mod PremiseLemmas
+pub mod ShapeLemmas
+pub mod SizeLemmas
 pub mod TextLemmas
 pub mod TreeLemmas

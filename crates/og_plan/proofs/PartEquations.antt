@@ -12,72 +12,8 @@ use Rattle.og_query.specs.declared.expression.Expr.TheOpen as e
 use Rattle.og_query.specs.declared.condition.Cond.{Cond, fold-Cond, fold-roll-Cond, ind-Cond, map-Cond, roll-Cond}
 use Rattle.og_query.specs.declared.condition.Cond.TheVariants.{And, Or, Not, Compare, Relate, Empty, Contains, rolls-And, rolls-Or, rolls-Not, rolls-Compare, rolls-Relate, rolls-Empty, rolls-Contains}
 use Rattle.og_query.specs.declared.condition.Cond.TheOpen as c
+use Rattle.og_query.proofs.Equations.{induction-Cond, fold-Call, fold-And, fold-Or, fold-Not, fold-Compare, fold-Relate, fold-Empty, fold-Contains}
 use Rattle.og_plan.specs.Parts.{parted_step, parts_of, expr_places_step, expr_places, places_step, places_of}
-
--- what holds of each of some things with a proof beside them
-each_of : {A : Type 0} (P : A → Type 0) (xs : List ((x : A) × P x)) → AllByRecursion P (map (λ e. e.0) xs)
-each_of P [] = tt
-each_of P (x ∷ xs) = (x.1, each_of P xs)
-
--- induction over conditions: what holds of each that has no condition in it, and of each of whose conditions it holds, holds of all
-induction-Cond : (P : Cond → Type 0)
-    → ((conds : List Cond) → AllByRecursion P conds → P (And conds)) → ((conds : List Cond) → AllByRecursion P conds → P (Or conds)) → ((cond : Cond) → P cond → P (Not cond))
-    → ((op : Cmp) (left right : Expr) → P (Compare op left right)) → ((pred : Pred) (left right : Expr) → P (Relate pred left right))
-    → ((period : Expr) → P (Empty period)) → ((period day : Expr) → P (Contains period day)) → (cond : Cond) → P cond
-induction-Cond P and or not compare relate empty contains = ind-Cond P (λ x y is. subst (λ z. P (roll-Cond z)) is (at y))
-  where
-    at : (y : c.Cond-F ((cond : Cond) × P cond)) → P (roll-Cond (map-Cond ((cond : Cond) × P cond) Cond (λ x. x.0) y))
-    at (c.And conds) = subst P (sym (rolls-And (map (λ x. x.0) conds))) (and (map (λ x. x.0) conds) (each_of P conds))
-    at (c.Or conds) = subst P (sym (rolls-Or (map (λ x. x.0) conds))) (or (map (λ x. x.0) conds) (each_of P conds))
-    at (c.Not cond) = subst P (sym (rolls-Not cond.0)) (not cond.0 cond.1)
-    at (c.Compare op left right) = subst P (sym (rolls-Compare op left right)) (compare op left right)
-    at (c.Relate pred left right) = subst P (sym (rolls-Relate pred left right)) (relate pred left right)
-    at (c.Empty period) = subst P (sym (rolls-Empty period)) (empty period)
-    at (c.Contains period day) = subst P (sym (rolls-Contains period day)) (contains period day)
-
--- a fold over expressions
-module _ {A : Type 0} (step : e.Expr-F A → A) where
-  -- of a column
-  fold-Column : (place : ℕ) → fold-Expr A step (Column place) ≡ step (e.Column place)
-  fold-Column place = ap (fold-Expr A step) (sym (rolls-Column place)) ∙ fold-roll-Expr A step (e.Column place)
-
-  -- of a literal
-  fold-Lit : (value : Value) → fold-Expr A step (Lit value) ≡ step (e.Lit value)
-  fold-Lit value = ap (fold-Expr A step) (sym (rolls-Lit value)) ∙ fold-roll-Expr A step (e.Lit value)
-
-  -- of a call
-  fold-Call : (func : Func) (args : List Expr) → fold-Expr A step (Call func args) ≡ step (e.Call func (map (fold-Expr A step) args))
-  fold-Call func args = ap (fold-Expr A step) (sym (rolls-Call func args)) ∙ fold-roll-Expr A step (e.Call func args)
-
--- a fold over conditions
-module _ {A : Type 0} (step : c.Cond-F A → A) where
-  -- of AND
-  fold-And : (conds : List Cond) → fold-Cond A step (And conds) ≡ step (c.And (map (fold-Cond A step) conds))
-  fold-And conds = ap (fold-Cond A step) (sym (rolls-And conds)) ∙ fold-roll-Cond A step (c.And conds)
-
-  -- of OR
-  fold-Or : (conds : List Cond) → fold-Cond A step (Or conds) ≡ step (c.Or (map (fold-Cond A step) conds))
-  fold-Or conds = ap (fold-Cond A step) (sym (rolls-Or conds)) ∙ fold-roll-Cond A step (c.Or conds)
-
-  -- of NOT
-  fold-Not : (cond : Cond) → fold-Cond A step (Not cond) ≡ step (c.Not (fold-Cond A step cond))
-  fold-Not cond = ap (fold-Cond A step) (sym (rolls-Not cond)) ∙ fold-roll-Cond A step (c.Not cond)
-
-  -- of a comparison
-  fold-Compare : (op : Cmp) (left right : Expr) → fold-Cond A step (Compare op left right) ≡ step (c.Compare op left right)
-  fold-Compare op left right = ap (fold-Cond A step) (sym (rolls-Compare op left right)) ∙ fold-roll-Cond A step (c.Compare op left right)
-
-  -- of a predicate
-  fold-Relate : (pred : Pred) (left right : Expr) → fold-Cond A step (Relate pred left right) ≡ step (c.Relate pred left right)
-  fold-Relate pred left right = ap (fold-Cond A step) (sym (rolls-Relate pred left right)) ∙ fold-roll-Cond A step (c.Relate pred left right)
-
-  -- of EMPTY
-  fold-Empty : (period : Expr) → fold-Cond A step (Empty period) ≡ step (c.Empty period)
-  fold-Empty period = ap (fold-Cond A step) (sym (rolls-Empty period)) ∙ fold-roll-Cond A step (c.Empty period)
-
-  -- of CONTAINS
-  fold-Contains : (period day : Expr) → fold-Cond A step (Contains period day) ≡ step (c.Contains period day)
-  fold-Contains period day = ap (fold-Cond A step) (sym (rolls-Contains period day)) ∙ fold-roll-Cond A step (c.Contains period day)
 
 -- a condition with its parts
 abbrev parted : Cond → Cond × List Cond
@@ -110,27 +46,27 @@ pub parts_of-And : (conds : List Cond) → parts_of (And conds) ≡ flat_map par
 parts_of-And conds = ap (λ c. c.1) (fold-And parted_step conds) ∙ flat_map-map (λ c. c.1) parted conds
 
 -- of OR
-parts_of-Or : (conds : List Cond) → parts_of (Or conds) ≡ Or conds ∷ []
+pub parts_of-Or : (conds : List Cond) → parts_of (Or conds) ≡ Or conds ∷ []
 parts_of-Or conds = ap (λ c. c.1) (fold-Or parted_step conds) ∙ ap (λ cs. Or cs ∷ []) (all_beside conds)
 
 -- of NOT
-parts_of-Not : (cond : Cond) → parts_of (Not cond) ≡ Not cond ∷ []
+pub parts_of-Not : (cond : Cond) → parts_of (Not cond) ≡ Not cond ∷ []
 parts_of-Not cond = ap (λ c. c.1) (fold-Not parted_step cond) ∙ ap (λ c. Not c ∷ []) (parted_itself cond)
 
 -- of a comparison
-parts_of-Compare : (op : Cmp) (left right : Expr) → parts_of (Compare op left right) ≡ Compare op left right ∷ []
+pub parts_of-Compare : (op : Cmp) (left right : Expr) → parts_of (Compare op left right) ≡ Compare op left right ∷ []
 parts_of-Compare op left right = ap (λ c. c.1) (fold-Compare parted_step op left right)
 
 -- of a predicate
-parts_of-Relate : (pred : Pred) (left right : Expr) → parts_of (Relate pred left right) ≡ Relate pred left right ∷ []
+pub parts_of-Relate : (pred : Pred) (left right : Expr) → parts_of (Relate pred left right) ≡ Relate pred left right ∷ []
 parts_of-Relate pred left right = ap (λ c. c.1) (fold-Relate parted_step pred left right)
 
 -- of EMPTY
-parts_of-Empty : (period : Expr) → parts_of (Empty period) ≡ Empty period ∷ []
+pub parts_of-Empty : (period : Expr) → parts_of (Empty period) ≡ Empty period ∷ []
 parts_of-Empty period = ap (λ c. c.1) (fold-Empty parted_step period)
 
 -- of CONTAINS
-parts_of-Contains : (period day : Expr) → parts_of (Contains period day) ≡ Contains period day ∷ []
+pub parts_of-Contains : (period day : Expr) → parts_of (Contains period day) ≡ Contains period day ∷ []
 parts_of-Contains period day = ap (λ c. c.1) (fold-Contains parted_step period day)
 
 -- the parts of a condition that is no AND: itself alone

@@ -38,7 +38,7 @@ kind_at kinds (Some place) = slice_get kinds place
 kind_at kinds None = None
 
 -- the columns of a comparison for equality that are a key of the join
-abbrev key_step : List Kind → ℕ → Cond-F (Option ColPair) → Option ColPair
+abbrev pub key_step : List Kind → ℕ → Cond-F (Option ColPair) → Option ColPair
 key_step kinds start (Compare cmp.Eq left right) =
     if are_key_kinds (kind_at kinds (column_of left)) (kind_at kinds (column_of right)) then across start (column_of left) (column_of right) else None
 key_step kinds start _ = None
@@ -48,7 +48,7 @@ abbrev pub key_of : List Kind → ℕ → Cond → Option ColPair
 key_of kinds start = fold-Cond (Option ColPair) (key_step kinds start)
 
 -- the columns of one predicate OVERLAPS
-abbrev overlap_step : ℕ → Cond-F (Option ColPair) → Option ColPair
+abbrev pub overlap_step : ℕ → Cond-F (Option ColPair) → Option ColPair
 overlap_step start (Relate pred.Overlaps left right) = across start (column_of left) (column_of right)
 overlap_step start _ = None
 

@@ -1,5 +1,9 @@
 pub mod Homes
 pub mod Joins
+pub mod Meaning
 pub mod Parts
 pub mod PlanOf
+pub mod Premises
+pub mod Shapes
+pub mod Sizes
 pub mod Text

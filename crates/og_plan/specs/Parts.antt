@@ -51,7 +51,7 @@ abbrev pub places_of : Cond → List ℕ
 places_of = fold-Cond (List ℕ) places_step
 
 -- one expression with its places counted from a later one, with each argument so
-abbrev expr_from_step : ℕ → Expr-F Expr → Expr
+abbrev pub expr_from_step : ℕ → Expr-F Expr → Expr
 expr_from_step start (Column place) = expr.Column (place - start)
 expr_from_step start (Lit value) = expr.Lit value
 expr_from_step start (Call func args) = expr.Call func args
@@ -61,7 +61,7 @@ abbrev pub expr_from : ℕ → Expr → Expr
 expr_from start = fold-Expr Expr (expr_from_step start)
 
 -- one condition with its places counted from a later one, with each condition in it so
-abbrev cond_from_step : ℕ → Cond-F Cond → Cond
+abbrev pub cond_from_step : ℕ → Cond-F Cond → Cond
 cond_from_step start (And conds) = cond.And conds
 cond_from_step start (Or conds) = cond.Or conds
 cond_from_step start (Not c) = cond.Not c
@@ -75,7 +75,7 @@ abbrev pub cond_from : ℕ → Cond → Cond
 cond_from start = fold-Cond Cond (cond_from_step start)
 
 -- one expression, as the place of a column
-abbrev column_step : Expr-F (Option ℕ) → Option ℕ
+abbrev pub column_step : Expr-F (Option ℕ) → Option ℕ
 column_step (Column place) = Some place
 column_step _ = None
 

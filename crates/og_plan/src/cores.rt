@@ -1,7 +1,13 @@
 //! The plan of a query: a function of its text alone.
-ghost use Rattle.std.specs.Prelude.{◌≡◌, ◌++◌, ◌+◌, ◌≤◌, IfOk, OnOk, fold, length};
+ghost use Rattle.std.specs.Prelude.{◌≡◌, ◌++◌, ◌+◌, ◌≤◌, ℤ, true, IfOk, OnOk, fold, length};
 ghost use Rattle.std.specs.List.{flat_map};
 ghost use Rattle.og_query.specs.Kinds.{kinds_of};
+ghost use Rattle.og_query.specs.Queries.{Named, ordinary_query};
+ghost use Rattle.og_query.specs.Sizes.{Sizes, query_size};
+ghost use Rattle.og_plan.specs.Meaning.{plan_rows};
+ghost use Rattle.og_plan.specs.Sizes.{plan_size};
+ghost use Rattle.og_plan.specs.Shapes.{is_sound, scans_of};
+ghost use Rattle.og_plan.specs.Premises.{AreInRange, AllHaveFitRows, query_tables};
 ghost use Rattle.og_plan.specs.Parts as parts;
 ghost use Rattle.og_plan.specs.Joins as joins;
 ghost use Rattle.og_plan.specs.Homes as homes;
@@ -15,7 +21,7 @@ use crate::joins::{filtered, joined_by};
 use crate::parts::{all_from, parts_of};
 use crate::plan::{Home, Plan};
 use og_base::NoMemory;
-use og_query::{Cond, Core, Expr, From1, Query, Semi};
+use og_query::{Cond, Core, Expr, From1, Query, Semi, copy_expressions};
 use og_value::{Kind, Schema};
 use sqlite_items::{Boxed, Items};
 use std::alloc::Global;
@@ -126,24 +132,13 @@ fn under_semis(alloc: Global, tree: Plan, semis: &[Semi]) -> Result<Plan, NoMemo
     Ok(under)
 }
 
-// The same expressions once more.
-fn copied(alloc: Global, items: &Items<Expr>) -> Result<Items<Expr>, NoMemory>
-    ensures { IfOk result (λ es. es ≡ items.now) }
-{
-    let mut copies = Items::new(alloc);
-    'items: for item in items.as_slice() {
-        copies.push(item.copy(alloc)?)?;
-    }
-    Ok(copies)
-}
-
 // The tree under the projection to the items.
 fn projected(alloc: Global, tree: Plan, items: &Items<Expr>) -> Result<Plan, NoMemory>
     ensures { IfOk result (λ p. p ≡ plans.Project tree items.now) }
 {
     Ok(Plan::Project {
         input: Boxed::new(alloc, tree)?,
-        items: copied(alloc, items)?,
+        items: copy_expressions(alloc, items)?,
     })
 }
 
@@ -170,8 +165,13 @@ fn core_plan(alloc: Global, core: &Core) -> Result<Plan, NoMemory>
 /// The plan of the query, by its text alone (docs/LANGUAGE.md, "Plans"). Refused only for want of
 /// memory.
 pub fn plan_of(alloc: Global, query: &Query) -> Result<Plan, NoMemory>
-    requires { HaveTables query.now }
-    ensures { IfOk result (λ p. p ≡ spec.plan_of query.now) }
+    requires tables { HaveTables query.now }
+    requires range { AreInRange query.now }
+    ensures plan { IfOk result (λ p. p ≡ spec.plan_of query.now) }
+    ensures meaning { IfOk result (λ p. (d : ℤ) (rows : Named) → AllHaveFitRows rows query.now → plan_rows d rows p ≡ ordinary_query d rows query.now) }
+    ensures size { IfOk result (λ p. (sizes : Sizes) → plan_size sizes p ≡ query_size sizes query.now) }
+    ensures sound { IfOk result (λ p. is_sound p ≡ true) }
+    ensures scans { IfOk result (λ p. scans_of p ≡ query_tables query.now) }
 {
     let mut plan = core_plan(alloc, &query.first)?;
     'rests: for rest in query.rest.as_slice() {

@@ -4,14 +4,13 @@
 mod cores;
 mod homes;
 mod joins;
+mod laws;
 mod parts;
 mod places;
 mod plan;
 mod text;
 
 pub use cores::plan_of;
+pub use laws::fitting_queries;
 pub use plan::{ColPair, Plan};
 pub use text::explain;
-
-#[cfg(test)]
-mod tests;
