@@ -1,0 +1,5 @@
+pub mod KeyLemmas
+pub mod MatchLemmas
+pub mod NodeLemmas
+pub mod ShapeLemmas
+pub mod SpanLemmas

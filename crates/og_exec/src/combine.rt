@@ -1,0 +1,32 @@
+//! Two answers, combined by a set operator.
+ghost use Rattle.std.specs.Prelude.{◌≡◌, ◌≤◌, ℤ, IfOk, length};
+ghost use Rattle.og_base.specs.Calendar.{IsRefDay};
+ghost use Rattle.og_value.specs.Order.{row_order};
+ghost use Rattle.og_rel.specs.Algebra.{union, except, intersect};
+ghost use Rattle.og_query.specs.Queries as meant;
+ghost use Rattle.og_query.specs.Sizes.{combined_size};
+ghost use Rattle.og_exec.specs.Tables.{rows_on};
+
+use og_base::NoMemory;
+use og_ops::{BinaryOp, Difference, Intersection, Union};
+use og_rel::Rel;
+use og_value::{Row, SetOp, order_of_rows};
+use std::alloc::Global;
+
+// The rows that the operator makes of both.
+pub(crate) fn combined(
+    alloc: Global,
+    op: SetOp,
+    left: &Rel<Row>,
+    right: &Rel<Row>,
+) -> Result<Rel<Row>, NoMemory>
+    ensures law { IfOk result (λ r. (d : ℤ) → IsRefDay d → rows_on r d ≡ meant.combined op (rows_on left.now d) (rows_on right.now d)) }
+    ensures size { IfOk result (λ r. length r ≤ combined_size op (length left.now) (length right.now)) }
+{
+    order_of_rows();
+    match op {
+        SetOp::Union => Union.apply(alloc, left, right),
+        SetOp::Except => Difference.apply(alloc, left, right),
+        SetOp::Intersect => Intersection.apply(alloc, left, right),
+    }
+}

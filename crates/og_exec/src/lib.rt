@@ -1,0 +1,16 @@
+//! The execution of plans: the answer of a plan on all days at once.
+#![tactic(auto)]
+
+mod answer;
+mod combine;
+mod keys;
+mod nodes;
+mod overlaps;
+mod run;
+mod spans;
+mod widths;
+
+pub use run::exec;
+
+#[cfg(test)]
+mod tests;

@@ -1,0 +1,94 @@
+//! The join on periods that overlap.
+ghost use Rattle.std.specs.Prelude.{◌≡◌, ◌≤◌, ◌*◌, ◌++◌, ◌&&◌, ◌+◌, ◌<◌, ℤ, true, IfOk, length};
+ghost use Rattle.std.specs.List.{All};
+ghost use Rattle.og_base.specs.Calendar.{IsRefDay};
+ghost use Rattle.og_plan.specs.Meaning.{all_hold, do_overlap, matches};
+ghost use Rattle.og_exec.specs.Spans.{do_overlap_and};
+ghost use Rattle.og_exec.specs.Tables.{rows_on};
+
+use crate::spans::{Both, ColumnSpans, are_as_wide, say_overlap};
+use crate::widths::added;
+use og_base::NoMemory;
+use og_expr::{CondDays, PartDays};
+use og_join::overlap_join;
+use og_par::Gate;
+use og_plan::ColPair;
+use og_query::{Cond, Expr};
+use og_rel::Rel;
+use og_value::{Pred, Row, order_of_rows};
+use sqlite_items::Items;
+use std::alloc::Global;
+use std::thread::Threads;
+
+// The combinations whose periods overlap and for which the rest holds, where each left row has so
+// many values.
+pub(crate) fn overlap_joined<H: Threads + Sync, G: Gate + Sync>(
+    rt: &H,
+    alloc: Global,
+    workers: usize,
+    left: &Rel<Row>,
+    right: &Rel<Row>,
+    width: usize,
+    pair: &ColPair,
+    rest: &Items<Cond>,
+    gate: &G,
+) -> Result<Rel<Row>, NoMemory>
+    requires least { 1 ≤ workers }
+    requires most { workers ≤ 64 }
+    ensures law { IfOk result (λ r. (d : ℤ) → IsRefDay d → All (λ x. length x ≡ width) (rows_on left.now d) → rows_on r d
+        ≡ matches (λ x y. do_overlap x y pair.now && all_hold d rest.now (x ++ y)) (rows_on left.now d) (rows_on right.now d)) }
+    ensures size { IfOk result (λ r. length r ≤ length left.now * length right.now) }
+{
+    // A row has no period in a column that it has not.
+    if pair.left >= width {
+        return Ok(Rel::new(alloc));
+    }
+    let place = added(width, pair.right)?;
+    let spans = ColumnSpans {
+        pair,
+        known: are_as_wide(left, width),
+    };
+    columns_joined(
+        rt, alloc, workers, left, right, width, place, &spans, rest, gate,
+    )
+}
+
+// The combinations for which the periods in the two columns of the glued row overlap and the rest
+// holds.
+fn columns_joined<H: Threads + Sync, G: Gate + Sync>(
+    rt: &H,
+    alloc: Global,
+    workers: usize,
+    left: &Rel<Row>,
+    right: &Rel<Row>,
+    width: usize,
+    place: usize,
+    spans: &ColumnSpans<'_>,
+    rest: &Items<Cond>,
+    gate: &G,
+) -> Result<Rel<Row>, NoMemory>
+    requires least { 1 ≤ workers }
+    requires most { workers ≤ 64 }
+    requires within { spans.now.pair.now.left < width }
+    requires place { place ≡ width + spans.now.pair.now.right }
+    requires known { spans.now.known ≡ true → All (λ p. length p.0 ≡ width) left.now }
+    ensures law { IfOk result (λ r. (d : ℤ) → IsRefDay d → rows_on r d
+        ≡ matches (λ x y. do_overlap_and d spans.now.pair.now.left place rest.now (x ++ y)) (rows_on left.now d) (rows_on right.now d)) }
+    ensures size { IfOk result (λ r. length r ≤ length left.now * length right.now) }
+{
+    order_of_rows();
+    let cond = PartDays { parts: rest };
+    if say_overlap(rest, spans.pair.left, place) {
+        return overlap_join(rt, alloc, workers, left, right, spans, &cond, gate);
+    }
+    let overlap = Cond::Relate {
+        pred: Pred::Overlaps,
+        left: Expr::Column(spans.pair.left),
+        right: Expr::Column(place),
+    };
+    let both = Both {
+        first: CondDays { cond: &overlap },
+        second: cond,
+    };
+    overlap_join(rt, alloc, workers, left, right, spans, &both, gate)
+}
