@@ -1,0 +1,4 @@
+pub mod EntryLemmas
+pub mod FitLemmas
+pub mod StatementLemmas
+pub mod WorldLemmas

@@ -1,0 +1,44 @@
+use Rattle.std.proofs.Common.{◌≡◌, ◌≤◌, ◌+◌, ◌++◌, ◌∙◌, ap, subst, sym, length, map}
+use Rattle.std.proofs.lemmas.Result.{on_ok_weaker}
+use Rattle.og_base.specs.Set.{set_of}
+use Rattle.og_value.specs.Order.{row_order}
+use Rattle.og_value.specs.Values.{row_at}
+use Rattle.og_rel.specs.Relations.{relation_at}
+use Rattle.og_db.specs.Database.{HaveKinds, AreKept, relation_of, world_at}
+use Rattle.og_db.specs.Held.{known_of, rows_of}
+use Rattle.og_db.proofs.StatementLemmas.{inserted, inserted_fit, length-inserted}
+use Rattle.og_db.proofs.WorldLemmas.{known_of-changed_at, made_of-changed_everywhere, rows_of-changed_at, rows_of-others, length-changed}
+use Rattle.og_db.proofs.database.Db.insert.Goals as goal
+
+pub add-requires : goal.add-requires
+add-requires c =
+    let t = c.requires.table in
+    (t.0, t.1, subst (HaveKinds t.0) (sym c.in_ok-more.ensures) (inserted_fit t.0 c.args.rows.items t.2))
+
+pub returns-clause-law : goal.returns-clause-law
+returns-clause-law c =
+    on_ok_weaker c.add.result (λ e d day.
+    ap (world_at d) e
+    ∙ made_of-changed_everywhere c.args.name.now (λ rel. relation_at row_order row_at rel d) (λ rel. rel ++ c.in_ok-more.more) _ c.args.self.now
+    (λ rel. ap (λ more. relation_at row_order row_at (rel ++ more) d) c.in_ok-more.ensures ∙ inserted rel c.args.rows.items d day))
+    c.add.ensures.added
+
+pub returns-clause-known : goal.returns-clause-known
+returns-clause-known c =
+    on_ok_weaker c.add.result (λ e other.
+    ap (λ db. known_of db other) e ∙ known_of-changed_at c.args.name.now (λ rel. rel ++ c.in_ok-more.more) c.args.self.now other)
+    c.add.ensures.added
+
+pub returns-clause-others : goal.returns-clause-others
+returns-clause-others c =
+    on_ok_weaker c.add.result (λ e other another.
+    ap (λ db. rows_of db other) e ∙ rows_of-others c.args.name.now (λ rel. rel ++ c.in_ok-more.more) c.args.self.now other another)
+    c.add.ensures.added
+
+pub returns-clause-size : goal.returns-clause-size
+returns-clause-size c =
+    on_ok_weaker c.add.result (λ e.
+    length-changed (λ n. n + length c.args.rows.items) (λ rel. rel ++ c.in_ok-more.more) (rows_of c.args.self.now c.args.name.now) (rows_of c.add.new.self c.args.name.now)
+    (ap (λ db. rows_of db c.args.name.now) e ∙ rows_of-changed_at c.args.name.now (λ rel. rel ++ c.in_ok-more.more) c.args.self.now)
+    (λ rel is. subst (λ more. length (rel ++ more) ≤ length rel + length c.args.rows.items) (sym c.in_ok-more.ensures) (length-inserted rel c.args.rows.items)))
+    c.add.ensures.added

@@ -1,0 +1,6 @@
+pub mod Database
+pub mod Entries
+pub mod Fits
+pub mod Held
+pub mod Insertion
+pub mod Statements

@@ -1,0 +1,264 @@
+//! The names of a run and what they hold.
+ghost use Rattle.std.specs.Prelude.{◌≡◌, ◌++◌, ◌+◌, ◌*◌, ◌<◌, ◌≤◌, ℕ, ℤ, List, [], ◌∷◌, IfOk, OnOk, OnErr, length, map, slice_index_or};
+ghost use Rattle.std.specs.List.{All, IsDistinct};
+ghost use Rattle.std.specs.Str.{bytes_eq};
+ghost use Rattle.og_base.specs.Calendar.{IsRefDay};
+ghost use Rattle.og_value.specs.declared.kind.What.TheVariants as what;
+ghost use Rattle.og_value.specs.declared.schema.Column.{Column};
+ghost use Rattle.og_query.specs.Fits.{IsFitRow, IsFitAssign, AreApart, IsNew, IsNamed};
+ghost use Rattle.og_query.specs.declared.typed.Typed.TheVariants as t;
+ghost use Rattle.og_db.specs.Fits.{KeepsKinds};
+ghost use Rattle.og_db.specs.Held.{Held, known_of, rows_of, changed_at, without};
+ghost use Rattle.og_db.specs.Statements.{ordinary_statement};
+ghost use Rattle.og_db.specs.Database.{Relation, HaveKinds, IsTableOf, AreKept, relation_of, world_at};
+
+use crate::assignments::Assignments;
+use crate::holding::Holding;
+use crate::insertion::on_all_days;
+use crate::sought::Sought;
+use indexmap::IndexMap;
+use og_base::NoMemory;
+use og_expr::CondDays;
+use og_ops::{Restrict, Split, UnaryOp};
+use og_query::{Assign, Cond};
+use og_rel::{Rel, Tables};
+use og_value::{Catalog, Name, Row, Schema, What};
+use std::alloc::Global;
+use std::marker::Model;
+
+/// Names in the order of creation, each with what it is, its columns and its relation. The rows of a
+/// name fit its columns.
+#[derive(Drop)]
+pub struct Db {
+    names: IndexMap<Name, Holding>,
+}
+
+impl Model for Db {
+    ghost use Rattle.std.specs.Prelude.{List, map};
+    ghost use Rattle.og_db.specs.Held.{Held};
+    ghost use Rattle.og_db.specs.Database.{Relation};
+    ghost use Rattle.og_db.specs.Entries.{AllFit, held_of};
+
+    ghost Value = { List (Held Relation) };
+
+    ghost view = { λ d. map held_of d.names.entries };
+
+    ghost invariant = { λ d. AllFit d.names.entries };
+}
+
+impl Db {
+    /// No names. Takes no memory.
+    pub fn new(alloc: Global) -> Db
+        ensures { result ≡ [] }
+    {
+        Db {
+            names: IndexMap::new(alloc),
+        }
+    }
+
+    /// Adds a table without rows, as the last name. Refused only for want of memory, and then nothing
+    /// has changed.
+    pub fn create(&mut self, name: Name, schema: Schema) -> Result<(), NoMemory>
+        requires { IsNew (known_of self.old) name }
+        ensures created { OnOk result (self.new ≡ self.old ++ record { name = name; what = what.Table; columns = schema; rows = [] } ∷ []) }
+        ensures refused { OnErr result (self.new ≡ self.old) }
+    {
+        let rel = Rel::new(*self.names.allocator());
+        self.enter(name, What::Table, schema, rel)
+    }
+
+    /// Adds a result with its rows, as the last name. Refused only for want of memory, and then
+    /// nothing has changed.
+    pub fn keep(&mut self, name: Name, schema: Schema, rel: Rel<Row>) -> Result<(), NoMemory>
+        requires new { IsNew (known_of self.old) name }
+        requires fits { HaveKinds schema rel }
+        ensures kept { OnOk result (self.new ≡ self.old ++ record { name = name; what = what.Kept; columns = schema; rows = rel } ∷ []) }
+        ensures refused { OnErr result (self.new ≡ self.old) }
+    {
+        self.enter(name, What::Kept, schema, rel)
+    }
+
+    // Adds a name that is new, as the last.
+    fn enter(
+        &mut self,
+        name: Name,
+        what: What,
+        schema: Schema,
+        rel: Rel<Row>,
+    ) -> Result<(), NoMemory>
+        requires new { IsNew (known_of self.old) name }
+        requires fits { HaveKinds schema rel }
+        ensures entered { OnOk result (self.new ≡ self.old ++ record { name = name; what = what; columns = schema; rows = rel } ∷ []) }
+        ensures refused { OnErr result (self.new ≡ self.old) }
+    {
+        self.names.insert(name, Holding { what, schema, rel })?;
+        Ok(())
+    }
+
+    // Adds the rows at the end of those of a table.
+    fn add(&mut self, name: &Name, more: Rel<Row>) -> Result<(), NoMemory>
+        requires { (columns : List Column) × IsTableOf columns self.old name.now × HaveKinds columns more }
+        ensures added { OnOk result (self.new ≡ changed_at name.now (λ rows. rows ++ more) self.old) }
+        ensures refused { OnErr result (self.new ≡ self.old) }
+    {
+        let Some(at) = self.names.get_index_of(name) else {
+            return Ok(());
+        };
+        self.names[at].rel.append(more)
+    }
+
+    // Puts a relation in the place of that of a table.
+    fn put(&mut self, name: &Name, rel: Rel<Row>)
+        requires { (columns : List Column) × IsTableOf columns self.old name.now × HaveKinds columns rel }
+        ensures { self.new ≡ changed_at name.now (λ _. rel) self.old }
+    {
+        if let Some(at) = self.names.get_index_of(name) {
+            self.names[at].rel = rel;
+        }
+    }
+
+    /// Adds the rows to a table, each present on all days. Refused only for want of memory, and then
+    /// nothing has changed.
+    pub fn insert(&mut self, name: &Name, rows: Vec<Row>) -> Result<(), NoMemory>
+        requires table { (columns : List Column) × IsTableOf columns self.old name.now × All (IsFitRow columns) rows.items }
+        ensures law { OnOk result ((d : ℤ) → IsRefDay d →
+            world_at d self.new ≡ ordinary_statement d (world_at d self.old) (t.Insert name.now rows.items)) }
+        ensures known { OnOk result ((other : List ℕ) → known_of self.new other ≡ known_of self.old other) }
+        ensures others { OnOk result (AreKept name.now self.old self.new) }
+        ensures size { OnOk result (length (relation_of self.new name.now) ≤ length (relation_of self.old name.now) + length rows.items) }
+        ensures refused { OnErr result (self.new ≡ self.old) }
+    {
+        let more = on_all_days(*self.names.allocator(), rows)?;
+        self.add(name, more)
+    }
+
+    /// Takes the rows of which the condition holds from a table, each on the days on which it does.
+    /// Refused only for want of memory, and then nothing has changed.
+    pub fn delete(&mut self, name: &Name, cond: &Cond) -> Result<(), NoMemory>
+        requires table { (columns : List Column) × IsTableOf columns self.old name.now }
+        ensures law { OnOk result ((d : ℤ) → IsRefDay d →
+            world_at d self.new ≡ ordinary_statement d (world_at d self.old) (t.Delete name.now cond.now)) }
+        ensures known { OnOk result ((other : List ℕ) → known_of self.new other ≡ known_of self.old other) }
+        ensures others { OnOk result (AreKept name.now self.old self.new) }
+        ensures size { OnOk result (length (relation_of self.new name.now) ≤ length (relation_of self.old name.now)) }
+        ensures refused { OnErr result (self.new ≡ self.old) }
+    {
+        let left = Restrict {
+            cond: CondDays { cond },
+        };
+        self.change(name, &left)
+    }
+
+    /// Puts the assigned rows in the place of the rows of a table of which the condition holds, on the
+    /// days on which it does. Refused only for want of memory, and then nothing has changed.
+    pub fn update(&mut self, name: &Name, sets: &[Assign], cond: &Cond) -> Result<(), NoMemory>
+        requires table { (columns : List Column) × IsTableOf columns self.old name.now × All (IsFitAssign columns) sets.now }
+        ensures law { OnOk result ((d : ℤ) → IsRefDay d →
+            world_at d self.new ≡ ordinary_statement d (world_at d self.old) (t.Update name.now sets.now cond.now)) }
+        ensures known { OnOk result ((other : List ℕ) → known_of self.new other ≡ known_of self.old other) }
+        ensures others { OnOk result (AreKept name.now self.old self.new) }
+        ensures size { OnOk result (length (relation_of self.new name.now) ≤ 2 * length (relation_of self.old name.now)) }
+        ensures refused { OnErr result (self.new ≡ self.old) }
+    {
+        let changed = Split {
+            cond: CondDays { cond },
+            items: Assignments { sets },
+        };
+        self.change(name, &changed)
+    }
+
+    // Puts what the operator makes of a table's relation in its place.
+    fn change<O: UnaryOp<Row>>(&mut self, name: &Name, op: &O) -> Result<(), NoMemory>
+        requires table { (columns : List Column) × IsTableOf columns self.old name.now × KeepsKinds columns (O.plain op.now) }
+        ensures law { OnOk result ((d : ℤ) → IsRefDay d →
+            world_at d self.new ≡ changed_at name.now (O.plain op.now d) (world_at d self.old)) }
+        ensures known { OnOk result ((other : List ℕ) → known_of self.new other ≡ known_of self.old other) }
+        ensures others { OnOk result (AreKept name.now self.old self.new) }
+        ensures size { OnOk result (length (relation_of self.new name.now) ≤ O.most op.now (length (relation_of self.old name.now))) }
+        ensures refused { OnErr result (self.new ≡ self.old) }
+    {
+        let alloc = *self.names.allocator();
+        let Some(rel) = self.rel(name.bytes()) else {
+            return Ok(());
+        };
+        let changed = op.apply(alloc, rel)?;
+        changed.some_days();
+        self.rows_fit();
+        self.names_differ();
+        self.put(name, changed);
+        Ok(())
+    }
+
+    /// No two names are the same.
+    pub fn names_differ(&self)
+        ensures { IsDistinct bytes_eq (map (λ h. h.name) self.now) }
+    {
+        let _ = self.names.len();
+    }
+
+    /// The number of names.
+    pub fn len(&self) -> usize
+        ensures { result ≡ length self.now }
+    {
+        self.names.len()
+    }
+
+    /// The name at that place, counted from 0.
+    pub fn name_at(&self, i: usize) -> &Name
+        requires { i < length self.now }
+        ensures { (h : Held Relation) → result.now ≡ (slice_index_or self.now i h).name }
+    {
+        let Some((name, _)) = self.names.get_index(i) else {
+            unreachable!();
+        };
+        name
+    }
+
+    /// Takes a name out. The others keep their order.
+    pub fn drop_name(&mut self, name: &Name)
+        ensures { self.new ≡ without name.now self.old }
+    {
+        let _ = self.names.len();
+        self.names.shift_remove(name);
+    }
+
+    /// The rows of each name fit its columns.
+    pub fn rows_fit(&self)
+        ensures { All (λ h. HaveKinds h.columns h.rows) self.now }
+    {
+        let _ = &self.names;
+    }
+}
+
+impl Catalog for Db {
+    ghost use Rattle.og_db.specs.Held.{known_of};
+
+    ghost known = { known_of };
+
+    fn what(&self, name: &Name) -> Option<What> {
+        match self.names.get(name) {
+            Some(holding) => Some(holding.what),
+            None => None,
+        }
+    }
+
+    fn schema(&self, name: &Name) -> Option<&Schema> {
+        match self.names.get(name) {
+            Some(holding) => Some(&holding.schema),
+            None => None,
+        }
+    }
+}
+
+impl Tables<Row> for Db {
+    ghost use Rattle.og_db.specs.Held.{rows_of};
+
+    ghost named = { rows_of };
+
+    fn rel(&self, name: &[u8]) -> Option<&Rel<Row>> {
+        match self.names.get(Sought { bytes: name }) {
+            Some(holding) => Some(&holding.rel),
+            None => None,
+        }
+    }
+}
