@@ -19,6 +19,3 @@ mod tables;
 pub use checker::check;
 pub use laws::checked_fits;
 pub use refusal::CheckRefusal;
-
-#[cfg(test)]
-mod tests;

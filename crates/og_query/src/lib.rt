@@ -10,8 +10,6 @@ mod laws;
 mod named;
 mod query;
 mod steady;
-#[cfg(test)]
-mod tests;
 mod truths;
 mod typed;
 mod values;

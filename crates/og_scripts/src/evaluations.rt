@@ -9,6 +9,7 @@ use og_query::{Query, Typed, ordinary};
 use og_value::{FixedRow, Name, Row, write_fixed};
 use sqlite_items::Items;
 use std::alloc::Global;
+use std::process::Abort;
 use std::test::Fail;
 
 // Names and the rows of each on one day.
@@ -39,6 +40,13 @@ const X: &str = "CREATE TABLE x (p DATE); INSERT INTO x VALUES (ONGOING 'now');
 // A period that always has days, and one that never has any.
 const Q: &str = "CREATE TABLE q (u PERIOD, v PERIOD);
     INSERT INTO q VALUES (PERIOD '[-infinity,infinity)', PERIOD '[9999-12-31,now)');
+    ";
+
+// Staff in teams, and who is gone.
+const TEAMS: &str = "CREATE TABLE staff (id INT, team INT);
+    INSERT INTO staff VALUES (1, 10), (2, 20), (3, 10);
+    CREATE TABLE team (id INT, size INT); INSERT INTO team VALUES (10, 5), (20, 7);
+    CREATE TABLE gone (id INT, n INT); INSERT INTO gone VALUES (3, 0);
     ";
 
 // Adds the rows at the day to the last table, whose name they are inserted into.
@@ -123,77 +131,12 @@ fn answer(
     Ok((Vec::new(alloc), Vec::new(alloc)))
 }
 
-#[test]
-fn queries_of_one_table(rt: HostRuntime) -> Result<(), Fail> {
-    for (statements, query, day, wanted) in [
-        (
-            B,
-            "SELECT id, vt FROM bugs WHERE id = 500",
-            "2020-03-01",
-            "500 [2020-01-25,2020-03-01) \n",
-        ),
-        (
-            B,
-            "SELECT id, vt FROM bugs WHERE id = 500",
-            "2020-01-20",
-            "500 [2020-01-25,2020-01-20) \n",
-        ),
-        (
-            B,
-            "SELECT id, vt FROM bugs WHERE id = 500 AND NOT EMPTY(vt)",
-            "2020-01-25",
-            "",
-        ),
-        (Q, "SELECT u FROM q WHERE u OVERLAPS v", "9999-12-31", ""),
-        (
-            X,
-            "SELECT LEAST(p, DATE '2020-03-01') FROM x",
-            "2020-02-01",
-            "2020-02-01 \n",
-        ),
-        (
-            X,
-            "SELECT LEAST(p, DATE '2020-03-01') FROM x",
-            "2020-05-01",
-            "2020-03-01 \n",
-        ),
-        (
-            X,
-            "SELECT p FROM x EXCEPT SELECT p FROM y",
-            "2020-05-01",
-            "",
-        ),
-        (
-            X,
-            "SELECT p FROM x EXCEPT SELECT p FROM y",
-            "2020-05-02",
-            "2020-05-02 \n",
-        ),
-        (
-            X,
-            "SELECT p FROM x INTERSECT SELECT p FROM y",
-            "2020-05-01",
-            "2020-05-01 \n",
-        ),
-        (
-            X,
-            "SELECT p FROM x INTERSECT SELECT p FROM y",
-            "2020-05-02",
-            "",
-        ),
-        (
-            X,
-            "SELECT p FROM x UNION SELECT p FROM y",
-            "2020-05-01",
-            "2020-05-01 \n",
-        ),
-        (
-            X,
-            "SELECT p FROM x UNION SELECT p FROM y",
-            "2020-05-02",
-            "2020-05-01 \n2020-05-02 \n",
-        ),
-    ] {
+// Asserts of each query after the statements on the day that these are the lines of its answer, and of its copy's.
+fn assert_answers<H: AllocGlobal + Abort>(
+    rt: &H,
+    cases: &[(&str, &str, &str, &str)],
+) -> Result<(), Fail> {
+    for (statements, query, day, wanted) in cases {
         let (rows, same) = answer(rt.alloc(), statements, query, day)?;
         assert_eq!(rt; rows.as_slice(), wanted.as_bytes(), "{query} on {day}");
         assert_eq!(rt;
@@ -206,44 +149,132 @@ fn queries_of_one_table(rt: HostRuntime) -> Result<(), Fail> {
 }
 
 #[test]
+fn queries_of_one_table(rt: HostRuntime) -> Result<(), Fail> {
+    assert_answers(
+        &rt,
+        &[
+            (
+                B,
+                "SELECT id, vt FROM bugs WHERE id = 500",
+                "2020-03-01",
+                "500 [2020-01-25,2020-03-01) \n",
+            ),
+            (
+                B,
+                "SELECT id, vt FROM bugs WHERE id = 500",
+                "2020-01-20",
+                "500 [2020-01-25,2020-01-20) \n",
+            ),
+            (
+                B,
+                "SELECT id, vt FROM bugs WHERE id = 500 AND NOT EMPTY(vt)",
+                "2020-01-25",
+                "",
+            ),
+            (Q, "SELECT u FROM q WHERE u OVERLAPS v", "9999-12-31", ""),
+            (
+                X,
+                "SELECT LEAST(p, DATE '2020-03-01') FROM x",
+                "2020-02-01",
+                "2020-02-01 \n",
+            ),
+            (
+                X,
+                "SELECT LEAST(p, DATE '2020-03-01') FROM x",
+                "2020-05-01",
+                "2020-03-01 \n",
+            ),
+            (
+                X,
+                "SELECT p FROM x EXCEPT SELECT p FROM y",
+                "2020-05-01",
+                "",
+            ),
+            (
+                X,
+                "SELECT p FROM x EXCEPT SELECT p FROM y",
+                "2020-05-02",
+                "2020-05-02 \n",
+            ),
+            (
+                X,
+                "SELECT p FROM x INTERSECT SELECT p FROM y",
+                "2020-05-01",
+                "2020-05-01 \n",
+            ),
+            (
+                X,
+                "SELECT p FROM x INTERSECT SELECT p FROM y",
+                "2020-05-02",
+                "",
+            ),
+            (
+                X,
+                "SELECT p FROM x UNION SELECT p FROM y",
+                "2020-05-01",
+                "2020-05-01 \n",
+            ),
+            (
+                X,
+                "SELECT p FROM x UNION SELECT p FROM y",
+                "2020-05-02",
+                "2020-05-01 \n2020-05-02 \n",
+            ),
+        ],
+    )
+}
+
+#[test]
 fn queries_of_two_tables(rt: HostRuntime) -> Result<(), Fail> {
-    for (query, day, wanted) in [
-        (K, "2020-08-15", "501 201 \n"),
-        (K, "2020-08-16", "500 201 \n501 201 \n"),
-        (K, "2020-08-25", "500 201 \n500 202 \n501 201 \n"),
-        (
-            "SELECT b.id, COMMON(b.vt, p.vt) AS w FROM bugs b, patch p WHERE p.pid = 201 AND b.vt OVERLAPS p.vt",
-            "2020-08-16",
-            "500 [2020-08-15,2020-08-16) \n501 [2020-08-15,2020-08-21) \n",
-        ),
-        (
-            "SELECT id FROM bugs b WHERE EXISTS (SELECT * FROM patch p WHERE p.vt OVERLAPS b.vt)",
-            "2020-08-15",
-            "501 \n",
-        ),
-        (
-            "SELECT id FROM bugs b WHERE EXISTS (SELECT * FROM patch p WHERE p.vt OVERLAPS b.vt)",
-            "2020-08-16",
-            "500 \n501 \n",
-        ),
-        (
-            "SELECT id FROM bugs b WHERE NOT EXISTS (SELECT * FROM patch p WHERE p.vt OVERLAPS b.vt)",
-            "2020-08-15",
-            "500 \n",
-        ),
-        (
-            "SELECT id FROM bugs b WHERE NOT EXISTS (SELECT * FROM patch p WHERE p.vt OVERLAPS b.vt)",
-            "2020-08-16",
-            "",
-        ),
-    ] {
-        let (rows, same) = answer(rt.alloc(), B, query, day)?;
-        assert_eq!(rt; rows.as_slice(), wanted.as_bytes(), "{query} on {day}");
-        assert_eq!(rt;
-            same.as_slice(),
-            wanted.as_bytes(),
-            "the copy of {query} on {day}"
-        );
-    }
-    Ok(())
+    assert_answers(
+        &rt,
+        &[
+            (B, K, "2020-08-15", "501 201 \n"),
+            (B, K, "2020-08-16", "500 201 \n501 201 \n"),
+            (B, K, "2020-08-25", "500 201 \n500 202 \n501 201 \n"),
+            (
+                B,
+                "SELECT b.id, COMMON(b.vt, p.vt) AS w FROM bugs b, patch p WHERE p.pid = 201 AND b.vt OVERLAPS p.vt",
+                "2020-08-16",
+                "500 [2020-08-15,2020-08-16) \n501 [2020-08-15,2020-08-21) \n",
+            ),
+            (
+                B,
+                "SELECT id FROM bugs b WHERE EXISTS (SELECT * FROM patch p WHERE p.vt OVERLAPS b.vt)",
+                "2020-08-15",
+                "501 \n",
+            ),
+            (
+                B,
+                "SELECT id FROM bugs b WHERE EXISTS (SELECT * FROM patch p WHERE p.vt OVERLAPS b.vt)",
+                "2020-08-16",
+                "500 \n501 \n",
+            ),
+            (
+                B,
+                "SELECT id FROM bugs b WHERE NOT EXISTS (SELECT * FROM patch p WHERE p.vt OVERLAPS b.vt)",
+                "2020-08-15",
+                "500 \n",
+            ),
+            (
+                B,
+                "SELECT id FROM bugs b WHERE NOT EXISTS (SELECT * FROM patch p WHERE p.vt OVERLAPS b.vt)",
+                "2020-08-16",
+                "",
+            ),
+        ],
+    )
+}
+
+#[test]
+fn a_query_joins_tests_and_takes_away(rt: HostRuntime) -> Result<(), Fail> {
+    assert_answers(
+        &rt,
+        &[(
+            TEAMS,
+            "SELECT staff.id, team.size FROM staff JOIN team ON staff.team = team.id WHERE NOT EXISTS (SELECT * FROM gone WHERE staff.id = gone.id) EXCEPT SELECT staff.id, 7 FROM staff",
+            "2020-05-01",
+            "1 5 \n",
+        )],
+    )
 }

@@ -31,6 +31,3 @@ pub use tree::{
     CondText, CoreText, ExprText, FromText, ItemText, ItemsText, QueryText, RestText, Script,
     SemiText, SetText, Stmt,
 };
-
-#[cfg(test)]
-mod tests;

@@ -147,27 +147,3 @@ fn are_in_word(bytes: &[u8]) -> bool
         .iter()
         .all(|b| b.is_ascii_alphanumeric() || *b == b'_')
 }
-
-#[cfg(test)]
-mod tests {
-    use super::*;
-    use std::test::Fail;
-
-    #[test]
-    fn a_name_is_a_word_in_lower_case(rt: HostRuntime) -> Result<(), Fail> {
-        for (word, name) in [("ID", "id"), ("_a1", "_a1"), ("Select", "select")] {
-            let read = Name::of(rt.alloc(), word.as_bytes())?;
-            assert_eq!(rt; read.as_str(), name);
-            assert_eq!(rt; read.copy()?.bytes(), name.as_bytes());
-        }
-        Ok(())
-    }
-
-    #[test]
-    fn other_bytes_are_no_name(rt: HostRuntime) {
-        for word in ["2x", "", "a-b", "a b", "\u{e4}"] {
-            let refused = Name::of(rt.alloc(), word.as_bytes()).is_err();
-            assert!(rt; refused, "{word}");
-        }
-    }
-}

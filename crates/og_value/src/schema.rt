@@ -96,24 +96,3 @@ impl Schema {
         })
     }
 }
-
-#[cfg(test)]
-mod tests {
-    use super::*;
-    use std::test::Fail;
-
-    #[test]
-    fn a_schema_has_its_columns(rt: HostRuntime) -> Result<(), Fail> {
-        let column = Column {
-            name: Name::of(rt.alloc(), b"id")?,
-            kind: Kind::Int,
-        };
-        let mut columns = Vec::new(rt.alloc());
-        columns.push(column.copy()?)?;
-        let schema = Schema::of(columns);
-        assert_eq!(rt; schema.len(), 1);
-        assert!(rt; *schema.column(0) == column);
-        assert!(rt; schema.copy()? == schema);
-        Ok(())
-    }
-}

@@ -140,28 +140,3 @@ impl Ord for Text {
         self.text.as_str().cmp(other.text.as_str())
     }
 }
-
-#[cfg(test)]
-mod tests {
-    use super::*;
-    use std::test::Fail;
-
-    #[test]
-    fn a_text_is_utf8(rt: HostRuntime) -> Result<(), Fail> {
-        let text = Text::of(rt.alloc(), b"a")?;
-        assert_eq!(rt; text.as_str(), "a");
-        assert_eq!(rt; text.bytes(), b"a".as_slice());
-        assert!(rt; text.copy()? == text);
-        let refused = Text::of(rt.alloc(), b"\xff").is_err();
-        assert!(rt; refused);
-        Ok(())
-    }
-
-    #[test]
-    fn texts_are_ordered_by_their_bytes(rt: HostRuntime) -> Result<(), Fail> {
-        let front = Text::of(rt.alloc(), b"Zz")?;
-        assert!(rt; Text::of(rt.alloc(), b"Z")? < front);
-        assert!(rt; front < Text::of(rt.alloc(), b"a")?);
-        Ok(())
-    }
-}

@@ -118,7 +118,7 @@ const BYTES: [(&str, &[u8], Reading); 8] = [
 
 #[test]
 fn any_bytes_stand_in_a_comment_and_a_text_is_utf8(rt: HostRuntime) {
-    for (name, script, read) in BYTES {
-        assert_eq!(rt; read_of(rt.alloc(), script), read, "{name}");
+    for (name, script, read) in &BYTES {
+        assert_eq!(rt; read_of(rt.alloc(), script), *read, "{name}");
     }
 }

@@ -2,6 +2,7 @@
 use crate::scripts::{Reading, assert_read, read_of};
 use og_base::NoMemory;
 use std::alloc::Global;
+use std::process::Abort;
 use std::test::Fail;
 
 // Two tables with rows.
@@ -10,46 +11,58 @@ const BUGS: &str =
 
 #[test]
 fn scripts_over_bugs_and_patches_are_read(rt: HostRuntime) -> Result<(), Fail> {
-    for (more, read) in [
-        (
-            "KEEP r AS SELECT b.id, p.pid FROM bugs b, patch p WHERE b.vt OVERLAPS p.vt AND b.comp = p.comp; PRINT r AS OF DATE '2020-08-15';",
-            Reading::Good(6),
-        ),
-        (
-            "LIVE v AS SELECT b.id, p.pid FROM bugs b, patch p WHERE b.vt OVERLAPS p.vt AND b.comp = p.comp; DELETE FROM bugs WHERE id = 501; PRINT v AS OF DATE '2020-08-16';",
-            Reading::Good(7),
-        ),
-        (
-            "PRINT SELECT id, vt FROM bugs WHERE id = 500 AND NOT EMPTY(vt) AS OF DATE '2020-01-25';",
-            Reading::Good(5),
-        ),
-        (
-            "PRINT SELECT b.id, COMMON(b.vt, p.vt) AS w FROM bugs b, patch p WHERE p.pid = 201 AND b.vt OVERLAPS p.vt AS OF DATE '2020-08-16';",
-            Reading::Good(5),
-        ),
-        (
-            "PRINT SELECT id FROM bugs b WHERE EXISTS (SELECT * FROM patch p WHERE p.vt OVERLAPS b.vt) AS OF DATE '2020-08-15';",
-            Reading::Good(5),
-        ),
-        (
-            "EXPLAIN SELECT b.id FROM bugs b JOIN patch p ON b.vt OVERLAPS p.vt WHERE b.id = 500;",
-            Reading::Good(5),
-        ),
-        (
-            "EXPLAIN SELECT b.id FROM bugs b, patch p WHERE (b.id = 500 OR p.pid = 201) AND 1 = 1 AND NOT (b.id = 501 AND p.pid = 202);",
-            Reading::Good(5),
-        ),
-        (
-            "UPDATE bugs SET id = 9 WHERE CONTAINS(vt, DATE '2020-08-18'); DROP patch; TABLES;",
-            Reading::Good(7),
-        ),
-        (
-            "LIVE w AS SELECT id FROM bugs EXCEPT SELECT id FROM bugs;",
-            Reading::Syntax(5),
-        ),
-    ] {
+    assert_read_of_bugs(
+        &rt,
+        &[
+            (
+                "KEEP r AS SELECT b.id, p.pid FROM bugs b, patch p WHERE b.vt OVERLAPS p.vt AND b.comp = p.comp; PRINT r AS OF DATE '2020-08-15';",
+                Reading::Good(6),
+            ),
+            (
+                "LIVE v AS SELECT b.id, p.pid FROM bugs b, patch p WHERE b.vt OVERLAPS p.vt AND b.comp = p.comp; DELETE FROM bugs WHERE id = 501; PRINT v AS OF DATE '2020-08-16';",
+                Reading::Good(7),
+            ),
+            (
+                "PRINT SELECT id, vt FROM bugs WHERE id = 500 AND NOT EMPTY(vt) AS OF DATE '2020-01-25';",
+                Reading::Good(5),
+            ),
+            (
+                "PRINT SELECT b.id, COMMON(b.vt, p.vt) AS w FROM bugs b, patch p WHERE p.pid = 201 AND b.vt OVERLAPS p.vt AS OF DATE '2020-08-16';",
+                Reading::Good(5),
+            ),
+            (
+                "PRINT SELECT id FROM bugs b WHERE EXISTS (SELECT * FROM patch p WHERE p.vt OVERLAPS b.vt) AS OF DATE '2020-08-15';",
+                Reading::Good(5),
+            ),
+            (
+                "EXPLAIN SELECT b.id FROM bugs b JOIN patch p ON b.vt OVERLAPS p.vt WHERE b.id = 500;",
+                Reading::Good(5),
+            ),
+            (
+                "EXPLAIN SELECT b.id FROM bugs b, patch p WHERE (b.id = 500 OR p.pid = 201) AND 1 = 1 AND NOT (b.id = 501 AND p.pid = 202);",
+                Reading::Good(5),
+            ),
+            (
+                "UPDATE bugs SET id = 9 WHERE CONTAINS(vt, DATE '2020-08-18'); DROP patch; TABLES;",
+                Reading::Good(7),
+            ),
+            (
+                "LIVE w AS SELECT id FROM bugs EXCEPT SELECT id FROM bugs;",
+                Reading::Syntax(5),
+            ),
+        ],
+    )?;
+    Ok(())
+}
+
+// Asserts that this is read of each script after that of bugs and patches.
+fn assert_read_of_bugs<H: AllocGlobal + Abort>(
+    rt: &H,
+    cases: &[(&str, Reading)],
+) -> Result<(), NoMemory> {
+    for (more, read) in cases {
         let script = joined(rt.alloc(), BUGS, more)?;
-        assert_eq!(rt; read_of(rt.alloc(), script.as_slice()), read, "{more}");
+        assert_eq!(rt; read_of(rt.alloc(), script.as_slice()), *read, "{more}");
     }
     Ok(())
 }
@@ -63,10 +76,10 @@ fn joined(alloc: Global, front: &str, more: &str) -> Result<Vec<u8>, NoMemory> {
 
 #[test]
 fn a_condition_stands_in_at_most_100_parentheses(rt: HostRuntime) -> Result<(), Fail> {
-    for (count, read) in [(100, Reading::Good(5)), (101, Reading::TooDeep(5))] {
-        let script = with_parentheses(rt.alloc(), count)?;
-        assert_eq!(rt; read_of(rt.alloc(), script.as_slice()), read, "{count}");
-    }
+    let script = with_parentheses(rt.alloc(), 100)?;
+    assert_eq!(rt; read_of(rt.alloc(), script.as_slice()), Reading::Good(5));
+    let script = with_parentheses(rt.alloc(), 101)?;
+    assert_eq!(rt; read_of(rt.alloc(), script.as_slice()), Reading::TooDeep(5));
     Ok(())
 }
 

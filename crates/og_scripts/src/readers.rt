@@ -1,10 +1,11 @@
 //! Each reader at work once, over lexemes that stand here.
-use super::{
+use og_base::read_day;
+use og_syntax::{
     CondText, CoreText, ExprText, ItemsText, Lexeme, Refusal, Sort, condition, expression, literal,
     query,
 };
-use og_base::read_day;
 use og_value::{Cmp, Value};
+use std::process::Abort;
 use std::test::Fail;
 
 // A lexeme from one byte to before another.
@@ -17,8 +18,8 @@ fn lexeme(sort: Sort, start: usize, end: usize) -> Lexeme {
     }
 }
 
-#[test]
-fn a_day_text_is_a_fixed_point(rt: HostRuntime) -> Result<(), Fail> {
+// Asserts that the text of a day is read as the point that is that day.
+fn assert_a_day<H: AllocGlobal + Abort>(rt: &H) -> Result<(), Fail> {
     let lexemes = [lexeme(Sort::Date, 0, 4), lexeme(Sort::Quoted, 5, 17)];
     let (value, rest) = literal(rt.alloc(), b"DATE '2020-02-29'", true, lexemes.as_slice())?;
     let Value::Point(point) = value else {
@@ -31,7 +32,12 @@ fn a_day_text_is_a_fixed_point(rt: HostRuntime) -> Result<(), Fail> {
 }
 
 #[test]
-fn a_text_that_is_no_day_is_refused_where_the_reading_is_strict(rt: HostRuntime) {
+fn a_day_text_is_a_fixed_point(rt: HostRuntime) -> Result<(), Fail> {
+    assert_a_day(&rt)
+}
+
+// Asserts that the text of no day is refused where the reading is strict, and there alone.
+fn assert_no_day<H: AllocGlobal + Abort>(rt: &H) {
     let lexemes = [lexeme(Sort::Date, 0, 4), lexeme(Sort::Quoted, 5, 17)];
     let script = b"DATE '2019-02-29'";
     assert!(rt;
@@ -44,7 +50,12 @@ fn a_text_that_is_no_day_is_refused_where_the_reading_is_strict(rt: HostRuntime)
 }
 
 #[test]
-fn a_doubled_quote_is_one_quote(rt: HostRuntime) -> Result<(), Fail> {
+fn a_text_that_is_no_day_is_refused_where_the_reading_is_strict(rt: HostRuntime) {
+    assert_no_day(&rt);
+}
+
+// Asserts that a doubled quote is read as one.
+fn assert_a_quote<H: AllocGlobal + Abort>(rt: &H) -> Result<(), Fail> {
     let lexemes = [lexeme(Sort::Quoted, 0, 7)];
     let (value, _) = literal(rt.alloc(), b"'it''s'", true, lexemes.as_slice())?;
     let Value::Text(text) = value else {
@@ -55,7 +66,12 @@ fn a_doubled_quote_is_one_quote(rt: HostRuntime) -> Result<(), Fail> {
 }
 
 #[test]
-fn names_are_kept_in_lower_case(rt: HostRuntime) -> Result<(), Fail> {
+fn a_doubled_quote_is_one_quote(rt: HostRuntime) -> Result<(), Fail> {
+    assert_a_quote(&rt)
+}
+
+// Asserts that the column of a table is read with its names in lower case.
+fn assert_lower_case<H: AllocGlobal + Abort>(rt: &H) -> Result<(), Fail> {
     let lexemes = [
         lexeme(Sort::Name, 0, 1),
         lexeme(Sort::Dot, 1, 2),
@@ -74,7 +90,12 @@ fn names_are_kept_in_lower_case(rt: HostRuntime) -> Result<(), Fail> {
 }
 
 #[test]
-fn and_binds_more_than_or(rt: HostRuntime) -> Result<(), Fail> {
+fn names_are_kept_in_lower_case(rt: HostRuntime) -> Result<(), Fail> {
+    assert_lower_case(&rt)
+}
+
+// Asserts that a condition with both words is read as the list of those that stand between OR.
+fn assert_binding<H: AllocGlobal + Abort>(rt: &H) -> Result<(), Fail> {
     let script = b"a < b OR a = b AND b < a";
     let lexemes = [
         lexeme(Sort::Name, 0, 1),
@@ -101,7 +122,12 @@ fn and_binds_more_than_or(rt: HostRuntime) -> Result<(), Fail> {
 }
 
 #[test]
-fn a_core_ends_with_not_exists(rt: HostRuntime) -> Result<(), Fail> {
+fn and_binds_more_than_or(rt: HostRuntime) -> Result<(), Fail> {
+    assert_binding(&rt)
+}
+
+// Asserts that a core is read to the end of its NOT EXISTS, and refused in a live query.
+fn assert_a_core<H: AllocGlobal + Abort>(rt: &H) -> Result<(), Fail> {
     let script = b"SELECT * FROM t x WHERE NOT EXISTS (SELECT * FROM u) UNION";
     let lexemes = [
         lexeme(Sort::Select, 0, 6),
@@ -135,4 +161,9 @@ fn a_core_ends_with_not_exists(rt: HostRuntime) -> Result<(), Fail> {
     let live = query(rt.alloc(), script, true, true, lexemes.as_slice());
     assert!(rt; matches!(live, Err(Refusal::Syntax)));
     Ok(())
+}
+
+#[test]
+fn a_core_ends_with_not_exists(rt: HostRuntime) -> Result<(), Fail> {
+    assert_a_core(&rt)
 }
