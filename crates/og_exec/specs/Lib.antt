@@ -1,4 +1,6 @@
 pub mod Answers
 pub mod Keys
+pub mod SemiKeys
+pub mod SemiLaws
 pub mod Spans
 pub mod Tables

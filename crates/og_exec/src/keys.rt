@@ -59,7 +59,7 @@ fn key(alloc: Global, row: &Row, pairs: &Items<ColPair>, left: bool) -> Result<F
 }
 
 // The place of the left column of a pair, or of the right one.
-fn place_in(left: bool, pair: &ColPair) -> usize
+pub(crate) fn place_in(left: bool, pair: &ColPair) -> usize
     ensures { result ≡ meant.place_in left pair.now }
 {
     if left { pair.left } else { pair.right }

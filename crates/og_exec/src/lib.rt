@@ -7,6 +7,7 @@ mod keys;
 mod nodes;
 mod overlaps;
 mod run;
+mod semi_keys;
 mod spans;
 mod widths;
 

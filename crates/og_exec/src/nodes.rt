@@ -8,12 +8,13 @@ ghost use Rattle.og_query.specs.Queries.{image};
 ghost use Rattle.og_plan.specs.Meaning.{all_hold, matches};
 ghost use Rattle.og_exec.specs.Tables.{rows_on};
 
+use crate::semi_keys::{EqualColumns, first_width};
 use og_base::NoMemory;
 use og_expr::{ItemMap, PartDays};
 use og_ops::{BinaryOp, Product, Project, Select, UnaryOp};
 use og_query::{Cond, Expr};
 use og_rel::Rel;
-use og_semi::Semi;
+use og_semi::KeyedSemi;
 use og_value::{Row, order_of_rows};
 use sqlite_items::Items;
 use std::alloc::Global;
@@ -64,7 +65,8 @@ pub(crate) fn projected(
 }
 
 // The rows for which, glued to some row of the table, all parts hold, where it is positive, and
-// otherwise the others.
+// otherwise the others. They are tried with those rows of the table alone that have the same values
+// in the columns which parts say are equal.
 pub(crate) fn semijoined(
     alloc: Global,
     input: &Rel<Row>,
@@ -77,6 +79,9 @@ pub(crate) fn semijoined(
     ensures size { IfOk result (λ r. length r ≤ length input.now) }
 {
     order_of_rows();
-    let cond = PartDays { parts };
-    Semi { cond, positive }.apply(alloc, input, table)
+    let matching = EqualColumns {
+        parts,
+        width: first_width(input),
+    };
+    KeyedSemi { matching, positive }.apply(alloc, input, table)
 }
