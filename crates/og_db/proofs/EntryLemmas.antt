@@ -1,5 +1,5 @@
 -- The entries that the code holds, and the names that contracts see of them.
-use Rattle.std.proofs.Common.{◌≡◌, ◌++◌, ℕ, zero, suc, Bool, true, false, cond, not, List, [], ◌∷◌, Option, Some, None, map, filter, slice_get, position, Result, Ok, Err, OnOk, OnErr, is_some, if◌then◌else◌, refl, sym, ap, ◌∙◌, subst, true≢false}
+use Rattle.std.proofs.Common.{◌≡◌, ◌++◌, ℕ, zero, suc, Bool, true, false, cond, not, List, [], ◌∷◌, Option, Some, None, map, position, Result, Ok, Err, OnOk, OnErr, is_some, if◌then◌else◌, refl, sym, ap, ◌∙◌, subst, true≢false}
 use Rattle.std.specs.Cmp.Lexicographic.{same_text}
 use Rattle.std.specs.List.{All, AllByRecursion, IsDistinct}
 use Rattle.std.specs.Map.{lookup, keys_of, remove_entry}
@@ -17,6 +17,7 @@ use Rattle.og_db.specs.Database.{Relation, IsTableOf}
 use Rattle.og_db.specs.Entries.{held_of}
 use Rattle.og_db.specs.Held.{Held, described, found, known_of, rows_of, made_of, changed_at, without}
 use Rattle.og_db.specs.declared.holding.Holding.{Holding}
+use Rattle.og_db.proofs.WorldLemmas.{changed_same}
 
 -- an entry of the map
 abbrev Entry : Type 0
@@ -147,15 +148,6 @@ module _ (name : List ℕ) where
           → map held_of (set_value_at es i new) ≡ changed_at name f (map held_of es)
       changed_at-entries es i at is apart =
           ap (map held_of) (sym (insert_entry-first bytes_eq name new es i (Found-position (bytes_eq name) es i at).first)) ∙ inserted es is apart
-
--- a name that is changed to what it was
-changed_same : (name : List ℕ) (hs : List (Held Relation)) → changed_at name (λ rows. rows) hs ≡ hs
-changed_same name [] = refl
-changed_same name (h ∷ hs) = λ i. as_it_was (bytes_eq name h.name) i ∷ changed_same name hs i
-  where
-    as_it_was : (b : Bool) → (if b then made_of (λ rows. rows) h else h) ≡ h
-    as_it_was true = refl
-    as_it_was false = refl
 
 module _ (name : List ℕ) (db : List (Held Relation)) (es : List Entry) (seen : map held_of es ≡ db) (i : ℕ) (old : Holding)
     (at : position (bytes_eq name) (keys_of es) ≡ Some i) (is : lookup (bytes_eq name) es ≡ Some old) where

@@ -1,5 +1,5 @@
 -- Rows that fit their columns: on each day, and so on all.
-use Rattle.std.proofs.Common.{◌≡◌, ℕ, ℤ, Bool, true, false, cond, List, [], ◌∷◌, Option, Some, None, map, Contains, if◌then◌else◌, refl, sym, ap, ap₂, ◌∙◌, subst, inl, inr, ⊎_elim}
+use Rattle.std.proofs.Common.{◌≡◌, ℕ, ℤ, true, false, cond, List, [], ◌∷◌, Option, Some, None, map, Contains, if◌then◌else◌, refl, sym, ap, ap₂, ◌∙◌, subst, inl, inr, ⊎_elim}
 use Rattle.std.specs.Bool.{⊤}
 use Rattle.std.specs.List.{All, AllByRecursion}
 use Rattle.std.specs.Option.{option_map}
@@ -17,8 +17,7 @@ use Rattle.og_value.specs.declared.value.Value.TheVariants as v
 use Rattle.og_rel.specs.Relations.{HasDays, present, relation_at}
 use Rattle.og_ops.proofs.DayLemmas.{some_day}
 use Rattle.og_query.specs.Fits.{IsFitRow}
-use Rattle.og_query.specs.Kinds.{fixed_kind, kinds_of}
-use Rattle.og_query.specs.Queries.{Fixed}
+use Rattle.og_query.specs.Kinds.{fixed_kind}
 use Rattle.og_query.proofs.QueryLemmas.{rows_ordered}
 use Rattle.og_db.specs.Database.{Relation, HaveKinds}
 use Rattle.og_db.specs.Fits.{IsFitFixed}

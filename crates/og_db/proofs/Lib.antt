@@ -1,4 +1,6 @@
+pub mod AnswerLemmas
 pub mod EntryLemmas
 pub mod FitLemmas
+pub mod SizeLemmas
 pub mod StatementLemmas
 pub mod WorldLemmas

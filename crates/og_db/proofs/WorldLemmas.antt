@@ -1,12 +1,11 @@
 -- Names that are changed, and the worlds of a day that they stand for.
-use Rattle.std.proofs.Common.{◌≡◌, ◌++◌, ◌≤◌, ◌+◌, ℕ, ℤ, Bool, true, false, cond, List, [], ◌∷◌, Option, Some, None, length, map, if◌then◌else◌, refl, sym, ap, ◌∙◌, subst, true≢false, arith}
-use Rattle.std.specs.Cmp.Lexicographic.{same_text, bytes_decides}
+use Rattle.std.proofs.Common.{◌≡◌, ◌++◌, ℕ, Bool, true, false, cond, not, List, [], ◌∷◌, Option, Some, None, map, if◌then◌else◌, refl, sym, ap, ◌∙◌, subst, true≢false}
+use Rattle.std.specs.Cmp.Lexicographic.{same_text}
 use Rattle.std.specs.List.{AllByRecursion, IsDistinct}
 use Rattle.std.specs.Option.{option_map}
 use Rattle.std.specs.Str.{bytes_eq}
-use Rattle.std.proofs.lemmas.List.Elements.{All-from_recursion, All-weaker, recursion_from_All}
 use Rattle.std.proofs.lemmas.Map.Keys.{IsDistinct-head, IsDistinct-tail}
-use Rattle.og_db.specs.Held.{Held, described, found, known_of, rows_of, made_of, all_made_of, changed_at}
+use Rattle.og_db.specs.Held.{Held, described, found, known_of, rows_of, made_of, all_made_of, changed_at, without}
 use Rattle.og_db.specs.Statements.{or_else}
 
 -- what is so of all names but one, and of that one where a test is false
@@ -27,22 +26,7 @@ module _ {V : Type 0} (name : List ℕ) where
           (λ _. cc is, none_behind hs (subst (λ n. AllByRecursion (λ key. bytes_eq n key ≡ false) (map (λ h. h.name) hs)) (sym (same_text name h.name (sym here))) (IsDistinct-head bytes_eq h.name (map (λ h. h.name) hs) apart)))
       at false here is rest = (λ t. absurd (true≢false (sym t ∙ here)), rest is)
 
-  -- the rows under the name are those that are made of its own
-  pub rows_of-changed_at : (g : V → V) (db : List (Held V)) → rows_of (changed_at name g db) name ≡ option_map g (rows_of db name)
-  rows_of-changed_at g [] = refl
-  rows_of-changed_at g (h ∷ hs) = at (bytes_eq name h.name) refl (rows_of-changed_at g hs)
-    where
-      at : (b : Bool) → bytes_eq name h.name ≡ b → rows_of (changed_at name g hs) name ≡ option_map g (rows_of hs name)
-          → rows_of ((if b then made_of g h else h) ∷ changed_at name g hs) name ≡ option_map g (rows_of (h ∷ hs) name)
-      at true here rest =
-          ap (λ c. option_map (λ h. h.rows) (cond c (Some (made_of g h)) (found (changed_at name g hs) name))) here
-          ∙ sym (ap (λ c. option_map g (option_map (λ h. h.rows) (cond c (Some h) (found hs name)))) here)
-      at false here rest =
-          ap (λ c. option_map (λ h. h.rows) (cond c (Some h) (found (changed_at name g hs) name))) here
-          ∙ rest
-          ∙ sym (ap (λ c. option_map g (option_map (λ h. h.rows) (cond c (Some h) (found hs name)))) here)
-
-  -- and those under another name are what they were
+  -- the rows under another name are what they were
   pub rows_of-others : (g : V → V) (db : List (Held V)) (other : List ℕ) → ¬ (other ≡ name) → rows_of (changed_at name g db) other ≡ rows_of db other
   rows_of-others g [] other another = refl
   rows_of-others g (h ∷ hs) other another = at (bytes_eq name h.name) (bytes_eq other h.name) refl refl (rows_of-others g hs other another)
@@ -105,8 +89,51 @@ module _ {V : Type 0} (name : List ℕ) where
       each [] all = tt
       each (h ∷ hs) all = (λ here. e ∙ ap (λ rows. f (at rows)) (sym (all.0 here)), each hs all.1)
 
--- how many rows there are under a changed name
-pub length-changed : {A : Type 0} (most : ℕ → ℕ) (g : List A → List A) (old new : Option (List A)) → new ≡ option_map g old → ((rows : List A) → old ≡ Some rows → length (g rows) ≤ most (length rows))
-    → length (or_else [] new) ≤ most (length (or_else [] old))
-length-changed most g None new is bound = subst (λ o. length (or_else [] o) ≤ most 0) (sym is) (omega arith)
-length-changed most g (Some rows) new is bound = subst (λ o. length (or_else [] o) ≤ most (length rows)) (sym is) (bound rows refl)
+-- a name that is changed to what it was
+pub changed_same : {V : Type 0} (name : List ℕ) (hs : List (Held V)) → changed_at name (λ rows. rows) hs ≡ hs
+changed_same name [] = refl
+changed_same name (h ∷ hs) = λ i. as_it_was (bytes_eq name h.name) i ∷ changed_same name hs i
+  where
+    as_it_was : (b : Bool) → (if b then made_of (λ rows. rows) h else h) ≡ h
+    as_it_was true = refl
+    as_it_was false = refl
+
+module _ {V W : Type 0} (f : V → W) where
+  -- one more name
+  pub all_made_of-push : (hs : List (Held V)) (h : Held V) → all_made_of f (hs ++ h ∷ []) ≡ all_made_of f hs ++ made_of f h ∷ []
+  all_made_of-push [] h = refl
+  all_made_of-push (g ∷ hs) h = ap (λ rest. made_of f g ∷ rest) (all_made_of-push hs h)
+
+  -- a name that is taken out
+  pub all_made_of-without : (name : List ℕ) (hs : List (Held V)) → all_made_of f (without name hs) ≡ without name (all_made_of f hs)
+  all_made_of-without name [] = refl
+  all_made_of-without name (h ∷ hs) =
+      elim (bytes_eq name h.name) as (λ b. all_made_of f (cond (not b) (h ∷ without name hs) (without name hs)) ≡ cond (not b) (made_of f h ∷ without name (all_made_of f hs)) (without name (all_made_of f hs))) [
+        | true ↦ all_made_of-without name hs
+        | false ↦ ap (λ rest. made_of f h ∷ rest) (all_made_of-without name hs)
+      ]
+
+  -- what is found under a name
+  pub found-made_of : (hs : List (Held V)) (name : List ℕ) → found (all_made_of f hs) name ≡ option_map (made_of f) (found hs name)
+  found-made_of [] name = refl
+  found-made_of (h ∷ hs) name =
+      elim (bytes_eq name h.name) as (λ b. cond b (Some (made_of f h)) (found (all_made_of f hs) name) ≡ option_map (made_of f) (cond b (Some h) (found hs name))) [
+        | true ↦ refl
+        | false ↦ found-made_of hs name
+      ]
+
+  -- what each name is, with its columns
+  pub known_of-made_of : (hs : List (Held V)) (name : List ℕ) → known_of (all_made_of f hs) name ≡ known_of hs name
+  known_of-made_of hs name = ap (option_map described) (found-made_of hs name) ∙ same (found hs name)
+    where
+      same : (o : Option (Held V)) → option_map described (option_map (made_of f) o) ≡ option_map described o
+      same None = refl
+      same (Some h) = refl
+
+  -- the rows of a name, and another thing of an unknown one
+  pub named-made_of : (none : W) (hs : List (Held V)) (name : List ℕ) → or_else none (rows_of (all_made_of f hs) name) ≡ or_else none (option_map f (rows_of hs name))
+  named-made_of none hs name = ap (λ o. or_else none (option_map (λ h. h.rows) o)) (found-made_of hs name) ∙ same (found hs name)
+    where
+      same : (o : Option (Held V)) → or_else none (option_map (λ h. h.rows) (option_map (made_of f) o)) ≡ or_else none (option_map f (option_map (λ h. h.rows) o))
+      same None = refl
+      same (Some h) = refl

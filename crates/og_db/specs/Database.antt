@@ -1,7 +1,6 @@
 -- What a database holds: named relations whose rows fit their columns.
-use Rattle.std.specs.Prelude.{◌≡◌, ◌≤◌, ⊤, ℕ, ℤ, List, [], ◌∷◌, Option, Some, length}
+use Rattle.std.specs.Prelude.{◌≡◌, ℕ, ℤ, List, Some}
 use Rattle.std.specs.List.{All}
-use Rattle.og_base.specs.Calendar.{IsRefDay}
 use Rattle.og_base.specs.Ranges.{Range}
 use Rattle.og_value.specs.Order.{row_order}
 use Rattle.og_value.specs.Values.{row_at}
@@ -11,7 +10,7 @@ use Rattle.og_value.specs.declared.value.Value.{Value}
 use Rattle.og_query.specs.Fits.{IsFitRow}
 use Rattle.og_rel.specs.Relations.{relation_at}
 use Rattle.og_db.specs.Held.{Held, rows_of, known_of, all_made_of}
-use Rattle.og_db.specs.Statements.{World, or_else}
+use Rattle.og_db.specs.Statements.{World}
 
 -- a relation: rows with the days on which they are present
 abbrev pub Relation : Type 0
@@ -24,10 +23,6 @@ HaveKinds columns rel = All (λ p. IsFitRow columns p.0) rel
 -- the world of one day that a database stands for
 abbrev pub world_at : ℤ → List (Held Relation) → World
 world_at d db = all_made_of (λ rel. relation_at row_order row_at rel d) db
-
--- the relation of a name, and none of an unknown name
-abbrev pub relation_of : List (Held Relation) → List ℕ → Relation
-relation_of db name = or_else [] (rows_of db name)
 
 -- a table of these columns is held under the name
 abbrev pub IsTableOf : List Column → List (Held Relation) → List ℕ → Type 0

@@ -1,5 +1,5 @@
 -- The entries of a database as the code holds them.
-use Rattle.std.specs.Prelude.{ℕ, List, map}
+use Rattle.std.specs.Prelude.{ℕ, List}
 use Rattle.std.specs.List.{All}
 use Rattle.og_db.specs.declared.holding.Holding.{Holding}
 use Rattle.og_db.specs.Held.{Held}

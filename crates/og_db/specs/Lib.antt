@@ -3,4 +3,5 @@ pub mod Entries
 pub mod Fits
 pub mod Held
 pub mod Insertion
+pub mod Runs
 pub mod Statements

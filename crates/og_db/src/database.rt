@@ -1,5 +1,5 @@
 //! The names of a run and what they hold.
-ghost use Rattle.std.specs.Prelude.{◌≡◌, ◌++◌, ◌+◌, ◌*◌, ◌<◌, ◌≤◌, ℕ, ℤ, List, [], ◌∷◌, IfOk, OnOk, OnErr, length, map, slice_index_or};
+ghost use Rattle.std.specs.Prelude.{◌≡◌, ◌++◌, ◌<◌, ℕ, ℤ, List, [], ◌∷◌, IfOk, OnOk, OnErr, length, map, slice_index_or};
 ghost use Rattle.std.specs.List.{All, IsDistinct};
 ghost use Rattle.std.specs.Str.{bytes_eq};
 ghost use Rattle.og_base.specs.Calendar.{IsRefDay};
@@ -9,8 +9,9 @@ ghost use Rattle.og_query.specs.Fits.{IsFitRow, IsFitAssign, AreApart, IsNew, Is
 ghost use Rattle.og_query.specs.declared.typed.Typed.TheVariants as t;
 ghost use Rattle.og_db.specs.Fits.{KeepsKinds};
 ghost use Rattle.og_db.specs.Held.{Held, known_of, rows_of, changed_at, without};
-ghost use Rattle.og_db.specs.Statements.{ordinary_statement};
-ghost use Rattle.og_db.specs.Database.{Relation, HaveKinds, IsTableOf, AreKept, relation_of, world_at};
+ghost use Rattle.og_db.specs.Runs.{AreWithin, sizes_at};
+ghost use Rattle.og_db.specs.Statements.{ordinary_statement, size_after};
+ghost use Rattle.og_db.specs.Database.{Relation, HaveKinds, IsTableOf, AreKept, world_at};
 
 use crate::assignments::Assignments;
 use crate::holding::Holding;
@@ -61,6 +62,8 @@ impl Db {
     pub fn create(&mut self, name: Name, schema: Schema) -> Result<(), NoMemory>
         requires { IsNew (known_of self.old) name }
         ensures created { OnOk result (self.new ≡ self.old ++ record { name = name; what = what.Table; columns = schema; rows = [] } ∷ []) }
+        ensures law { OnOk result ((d : ℤ) → IsRefDay d →
+            world_at d self.new ≡ ordinary_statement d (world_at d self.old) (t.Create name schema)) }
         ensures refused { OnErr result (self.new ≡ self.old) }
     {
         let rel = Rel::new(*self.names.allocator());
@@ -125,7 +128,7 @@ impl Db {
             world_at d self.new ≡ ordinary_statement d (world_at d self.old) (t.Insert name.now rows.items)) }
         ensures known { OnOk result ((other : List ℕ) → known_of self.new other ≡ known_of self.old other) }
         ensures others { OnOk result (AreKept name.now self.old self.new) }
-        ensures size { OnOk result (length (relation_of self.new name.now) ≤ length (relation_of self.old name.now) + length rows.items) }
+        ensures size { OnOk result (AreWithin (sizes_at self.new) (size_after (sizes_at self.old) (t.Insert name.now rows.items))) }
         ensures refused { OnErr result (self.new ≡ self.old) }
     {
         let more = on_all_days(*self.names.allocator(), rows)?;
@@ -140,7 +143,7 @@ impl Db {
             world_at d self.new ≡ ordinary_statement d (world_at d self.old) (t.Delete name.now cond.now)) }
         ensures known { OnOk result ((other : List ℕ) → known_of self.new other ≡ known_of self.old other) }
         ensures others { OnOk result (AreKept name.now self.old self.new) }
-        ensures size { OnOk result (length (relation_of self.new name.now) ≤ length (relation_of self.old name.now)) }
+        ensures size { OnOk result (AreWithin (sizes_at self.new) (size_after (sizes_at self.old) (t.Delete name.now cond.now))) }
         ensures refused { OnErr result (self.new ≡ self.old) }
     {
         let left = Restrict {
@@ -157,7 +160,7 @@ impl Db {
             world_at d self.new ≡ ordinary_statement d (world_at d self.old) (t.Update name.now sets.now cond.now)) }
         ensures known { OnOk result ((other : List ℕ) → known_of self.new other ≡ known_of self.old other) }
         ensures others { OnOk result (AreKept name.now self.old self.new) }
-        ensures size { OnOk result (length (relation_of self.new name.now) ≤ 2 * length (relation_of self.old name.now)) }
+        ensures size { OnOk result (AreWithin (sizes_at self.new) (size_after (sizes_at self.old) (t.Update name.now sets.now cond.now))) }
         ensures refused { OnErr result (self.new ≡ self.old) }
     {
         let changed = Split {
@@ -174,7 +177,7 @@ impl Db {
             world_at d self.new ≡ changed_at name.now (O.plain op.now d) (world_at d self.old)) }
         ensures known { OnOk result ((other : List ℕ) → known_of self.new other ≡ known_of self.old other) }
         ensures others { OnOk result (AreKept name.now self.old self.new) }
-        ensures size { OnOk result (length (relation_of self.new name.now) ≤ O.most op.now (length (relation_of self.old name.now))) }
+        ensures size { OnOk result (AreWithin (sizes_at self.new) (changed_at name.now (O.most op.now) (sizes_at self.old))) }
         ensures refused { OnErr result (self.new ≡ self.old) }
     {
         let alloc = *self.names.allocator();
@@ -216,7 +219,8 @@ impl Db {
 
     /// Takes a name out. The others keep their order.
     pub fn drop_name(&mut self, name: &Name)
-        ensures { self.new ≡ without name.now self.old }
+        ensures dropped { self.new ≡ without name.now self.old }
+        ensures law { (d : ℤ) → IsRefDay d → world_at d self.new ≡ ordinary_statement d (world_at d self.old) (t.Drop name.now) }
     {
         let _ = self.names.len();
         self.names.shift_remove(name);

@@ -5,8 +5,11 @@ mod assignments;
 mod database;
 mod holding;
 mod insertion;
+mod laws;
 mod sought;
+mod statements;
 #[cfg(test)]
 mod tests;
 
 pub use database::Db;
+pub use laws::{known_names, no_statements};

@@ -1,19 +1,18 @@
-use Rattle.std.proofs.Common.{◌≡◌, ◌≤◌, ℤ, List, Some, ◌∙◌, ap, subst, sym, length}
+use Rattle.std.proofs.Common.{◌≡◌, ℤ, ◌∙◌, ap, subst, sym, length}
 use Rattle.std.specs.List.{All}
 use Rattle.std.specs.Option.{option_map}
 use Rattle.og_base.specs.Calendar.{IsRefDay}
-use Rattle.og_base.specs.Ranges.{Range}
-use Rattle.og_base.specs.Set.{set_of}
 use Rattle.og_value.specs.Order.{row_order}
 use Rattle.og_value.specs.Values.{row_at}
-use Rattle.og_value.specs.declared.value.Value.{Value}
 use Rattle.og_rel.specs.Relations.{relation_at}
-use Rattle.og_db.specs.Database.{Relation, world_at}
+use Rattle.og_db.specs.Database.{world_at}
 use Rattle.og_db.specs.Fits.{IsFitFixed}
-use Rattle.og_db.specs.Held.{known_of, rows_of}
+use Rattle.og_db.specs.Held.{known_of, rows_of, changed_at}
+use Rattle.og_db.specs.Runs.{AreWithin, sizes_at}
 use Rattle.og_db.proofs.FitLemmas.{fit_from_days, fit_of, fit_on_day}
+use Rattle.og_db.proofs.SizeLemmas.{within-made_to}
 use Rattle.og_db.proofs.StatementLemmas.{row_order_is}
-use Rattle.og_db.proofs.WorldLemmas.{known_of-changed_at, made_of-changed_to, rows_of-changed_at, rows_of-others, length-changed}
+use Rattle.og_db.proofs.WorldLemmas.{known_of-changed_at, made_of-changed_to, rows_of-others}
 use Rattle.og_db.proofs.database.Db.change.Goals as goal
 
 pub put-requires : goal.put-requires
@@ -49,9 +48,5 @@ returns-clause-others g c = λ other another.
 pub returns-clause-size : goal.returns-clause-size
 returns-clause-size g c =
     let is = ap (rows_of c.args.self.now) (sym c.bytes.ensures) ∙ sym c.in-Some.ensures in
-    length-changed (g.O.UnaryOp.most c.args.op.now) (λ _. c.in_ok-changed.changed) (rows_of c.args.self.now c.args.name.now) (rows_of c.put.new.self c.args.name.now)
-    (ap (λ db. rows_of db c.args.name.now) c.put.ensures ∙ rows_of-changed_at c.args.name.now (λ _. c.in_ok-changed.changed) c.args.self.now)
-    (λ rows found. subst (λ rel. length c.in_ok-changed.changed ≤ g.O.UnaryOp.most c.args.op.now (length rel)) (inside (sym is ∙ found)) c.in_ok-changed.ensures.size)
-  where
-    inside : {A : Type 0} {a b : A} → Some a ≡ Some b → a ≡ b
-    inside e = cc
+    subst (λ db. AreWithin (sizes_at db) (changed_at c.args.name.now (g.O.UnaryOp.most c.args.op.now) (sizes_at c.args.self.now))) (sym c.put.ensures)
+    (within-made_to c.args.name.now length c.in-Some.rel.now c.in_ok-changed.changed (g.O.UnaryOp.most c.args.op.now) c.args.self.now is c.names_differ.ensures c.in_ok-changed.ensures.size)

@@ -1,13 +1,16 @@
-use Rattle.std.proofs.Common.{◌≡◌, ◌≤◌, ◌+◌, ◌++◌, ◌∙◌, ap, subst, sym, length, map}
+use Rattle.std.proofs.Common.{◌≤◌, ◌+◌, ◌++◌, ◌∙◌, ap, subst, sym, length}
 use Rattle.std.proofs.lemmas.Result.{on_ok_weaker}
-use Rattle.og_base.specs.Set.{set_of}
 use Rattle.og_value.specs.Order.{row_order}
 use Rattle.og_value.specs.Values.{row_at}
 use Rattle.og_rel.specs.Relations.{relation_at}
-use Rattle.og_db.specs.Database.{HaveKinds, AreKept, relation_of, world_at}
+use Rattle.og_query.specs.declared.typed.Typed.TheVariants as t
+use Rattle.og_db.specs.Database.{HaveKinds, world_at}
 use Rattle.og_db.specs.Held.{known_of, rows_of}
+use Rattle.og_db.specs.Runs.{AreWithin, sizes_at}
+use Rattle.og_db.specs.Statements.{size_after}
+use Rattle.og_db.proofs.SizeLemmas.{within-made_everywhere}
 use Rattle.og_db.proofs.StatementLemmas.{inserted, inserted_fit, length-inserted}
-use Rattle.og_db.proofs.WorldLemmas.{known_of-changed_at, made_of-changed_everywhere, rows_of-changed_at, rows_of-others, length-changed}
+use Rattle.og_db.proofs.WorldLemmas.{known_of-changed_at, made_of-changed_everywhere, rows_of-others}
 use Rattle.og_db.proofs.database.Db.insert.Goals as goal
 
 pub add-requires : goal.add-requires
@@ -38,7 +41,7 @@ returns-clause-others c =
 pub returns-clause-size : goal.returns-clause-size
 returns-clause-size c =
     on_ok_weaker c.add.result (λ e.
-    length-changed (λ n. n + length c.args.rows.items) (λ rel. rel ++ c.in_ok-more.more) (rows_of c.args.self.now c.args.name.now) (rows_of c.add.new.self c.args.name.now)
-    (ap (λ db. rows_of db c.args.name.now) e ∙ rows_of-changed_at c.args.name.now (λ rel. rel ++ c.in_ok-more.more) c.args.self.now)
-    (λ rel is. subst (λ more. length (rel ++ more) ≤ length rel + length c.args.rows.items) (sym c.in_ok-more.ensures) (length-inserted rel c.args.rows.items)))
+    subst (λ db. AreWithin (sizes_at db) (size_after (sizes_at c.args.self.now) (t.Insert c.args.name.now c.args.rows.items))) (sym e)
+    (within-made_everywhere c.args.name.now length (λ rel. rel ++ c.in_ok-more.more) (λ n. n + length c.args.rows.items) c.args.self.now
+    (λ rel. subst (λ more. length (rel ++ more) ≤ length rel + length c.args.rows.items) (sym c.in_ok-more.ensures) (length-inserted rel c.args.rows.items))))
     c.add.ensures.added

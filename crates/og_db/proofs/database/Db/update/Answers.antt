@@ -1,10 +1,9 @@
-use Rattle.std.proofs.Common.{List, subst, ◌∙◌, ap, map, sym}
+use Rattle.std.proofs.Common.{subst, ◌∙◌, ap, map, sym}
 use Rattle.std.specs.List.{All}
 use Rattle.std.proofs.lemmas.Result.{on_ok_weaker}
 use Rattle.og_base.specs.Set.{set_of}
 use Rattle.og_ops.specs.Plain.{replaced}
 use Rattle.og_query.specs.Conditions.{truth}
-use Rattle.og_query.specs.Queries.{Fixed}
 use Rattle.og_db.specs.Database.{world_at}
 use Rattle.og_db.specs.Fits.{IsFitFixed}
 use Rattle.og_db.specs.Held.{changed_at}

@@ -1,0 +1,5 @@
+use Rattle.std.proofs.Common.{refl}
+use Rattle.og_db.proofs.laws.no_statements.Goals as goal
+
+pub returns : goal.returns
+returns c = record { worlds = λ d day. refl; sizes = tt }
