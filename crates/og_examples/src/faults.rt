@@ -81,78 +81,36 @@ fn a_statement_that_is_none_is_named(rt: HostRuntime) -> Result<(), Fail> {
 }
 
 #[test]
-fn a_first_statement_that_does_not_run_is_named(rt: HostRuntime) -> Result<(), Fail> {
+fn a_statement_that_does_not_run_is_named_before_any_runs(rt: HostRuntime) -> Result<(), Fail> {
     assert_runs(
         &rt,
         3,
         &[
-            ("a list of tables", "TABLES;", "fault syntax statement 1\n"),
-            ("a drop", "DROP t;", "fault syntax statement 1\n"),
+            ("a save", "SAVE t TO 't.csv';", "fault syntax statement 1\n"),
             (
-                "a print without a table",
-                "PRINT t AS OF DATE '2020-05-01';",
+                "an open",
+                "OPEN t FROM 't.csv';",
                 "fault syntax statement 1\n",
             ),
             (
-                "an insert without a table",
-                "INSERT INTO t VALUES (ONGOING 'now');",
-                "fault syntax statement 1\n",
-            ),
-            (
-                "a create of two columns",
-                "CREATE TABLE t (p DATE, q DATE);",
-                "fault syntax statement 1\n",
-            ),
-            (
-                "a create of a column of numbers",
-                "CREATE TABLE t (p INT);",
-                "fault syntax statement 1\n",
-            ),
-        ],
-    )?;
-    Ok(())
-}
-
-#[test]
-fn a_later_statement_that_does_not_run_is_named(rt: HostRuntime) -> Result<(), Fail> {
-    assert_runs(
-        &rt,
-        3,
-        &[
-            (
-                "an insert into another table",
-                "CREATE TABLE t (p DATE); INSERT INTO u VALUES (ONGOING 'now');",
+                "an import after a create",
+                "CREATE TABLE t (p DATE); IMPORT INTO t FROM 't.csv';",
                 "fault syntax statement 2\n",
             ),
             (
-                "a print of another table",
-                "CREATE TABLE t (p DATE); PRINT u AS OF DATE '2020-05-01';",
-                "fault syntax statement 2\n",
-            ),
-            (
-                "a second create",
-                "CREATE TABLE t (p DATE); CREATE TABLE u (p DATE);",
-                "fault syntax statement 2\n",
-            ),
-            (
-                "an insert of a number",
-                "CREATE TABLE t (p DATE); INSERT INTO t VALUES (5);",
-                "fault syntax statement 2\n",
-            ),
-            (
-                "a number in the second tuple",
-                "CREATE TABLE t (p DATE); INSERT INTO t VALUES (ONGOING 'now'), (5);",
-                "fault syntax statement 2\n",
-            ),
-            (
-                "a tuple of two points",
-                "CREATE TABLE t (p DATE); INSERT INTO t VALUES (ONGOING 'now', ONGOING 'now');",
-                "fault syntax statement 2\n",
-            ),
-            (
-                "after a good print",
-                "CREATE TABLE t (p DATE); PRINT t AS OF DATE '2020-05-01'; TABLES;",
+                "a valid range after a good print",
+                "CREATE TABLE t (p DATE); PRINT t AS OF DATE '2020-05-01'; VALID t AS OF DATE '2020-05-01';",
                 "fault syntax statement 3\n",
+            ),
+            (
+                "a live result before a save",
+                "CREATE TABLE t (p DATE); TABLES; LIVE v AS SELECT p FROM t; SAVE t TO 't.csv';",
+                "fault syntax statement 3\n",
+            ),
+            (
+                "a save after a name that is not there",
+                "DROP u; SAVE t TO 't.csv';",
+                "fault syntax statement 2\n",
             ),
         ],
     )?;
@@ -197,7 +155,7 @@ fn a_text_that_is_not_of_its_form_is_named(rt: HostRuntime) -> Result<(), Fail> 
             ),
             (
                 "after a statement that does not run",
-                "TABLES; PRINT t AS OF DATE '2020-5-1';",
+                "SAVE t TO 't.csv'; PRINT t AS OF DATE '2020-5-1';",
                 "fault literal statement 2\n",
             ),
         ],

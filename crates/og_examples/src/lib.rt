@@ -12,7 +12,11 @@ mod devices;
 #[cfg(test)]
 mod empty;
 #[cfg(test)]
+mod executions;
+#[cfg(test)]
 mod faults;
+#[cfg(test)]
+mod further;
 pub mod joins;
 #[cfg(test)]
 mod limits;
@@ -29,3 +33,9 @@ pub mod rows;
 mod runs;
 #[cfg(test)]
 mod semijoins;
+#[cfg(test)]
+mod setups;
+#[cfg(test)]
+mod states;
+#[cfg(test)]
+mod worked;

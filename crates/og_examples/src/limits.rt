@@ -1,5 +1,6 @@
 //! The longest source, the deepest statement, and scripts of many rows.
-use crate::runs::ran_whole;
+use crate::runs::{ran_whole, script_of};
+use crate::setups::BUGS;
 use std::test::Fail;
 
 #[test]
@@ -24,6 +25,30 @@ fn a_statement_may_have_100_open_parentheses_and_no_more(rt: HostRuntime) -> Res
         let end = ran_whole(&rt, vec![in rt.alloc(); b'('; count]?.as_slice())?;
         assert_eq!(rt; end.status, 3, "{count} parentheses");
         assert_eq!(rt; end.written.as_slice(), written, "{count} parentheses");
+    }
+    Ok(())
+}
+
+#[test]
+fn a_condition_may_have_100_parentheses_and_no_more(rt: HostRuntime) -> Result<(), Fail> {
+    for (count, status, written) in [
+        (100, 0, "id\n500\n"),
+        (101, 3, "fault too deep statement 5\n"),
+    ] {
+        let mut script = script_of(rt.alloc(), &[BUGS, "PRINT SELECT id FROM bugs WHERE "])?;
+        for (byte, middle) in [(b'(', "id = 500"), (b')', " AS OF DATE '2020-03-01';")] {
+            for _ in 0..count {
+                script.push(byte)?;
+            }
+            script.extend_from_slice(middle.as_bytes())?;
+        }
+        let end = ran_whole(&rt, script.as_slice())?;
+        assert_eq!(rt; end.status, status, "{count} parentheses");
+        assert_eq!(rt;
+            end.written.as_slice(),
+            written.as_bytes(),
+            "{count} parentheses"
+        );
     }
     Ok(())
 }

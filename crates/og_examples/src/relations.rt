@@ -56,8 +56,8 @@ fn numbered(alloc: Global, point: OngoingPoint) -> Result<Rel<Row>, NoMemory> {
     Ok(rel)
 }
 
-// The cells of the rows with commas between them, each row on a line.
-fn lines(alloc: Global, rows: &[FixedRow]) -> Result<Vec<u8>, NoMemory> {
+/// The cells of the rows with commas between them, each row on a line.
+pub fn lines(alloc: Global, rows: &[FixedRow]) -> Result<Vec<u8>, NoMemory> {
     let mut out = Vec::new(alloc);
     for row in rows {
         for i in 0..row.len() {

@@ -1,6 +1,7 @@
-pub mod BuiltLemmas
 pub mod EndLemmas
-pub mod LayoutLemmas
+pub mod LineLemmas
 pub mod OneRun
+pub mod PieceLemmas
+pub mod RecordLemmas
 pub mod RunLemmas
-pub mod WorldLemmas
+pub mod StepLemmas

@@ -1,11 +1,8 @@
-pub mod Actions
 pub mod Ends
 pub mod Headline
+pub mod Lines
 pub mod Output
 pub mod Reading
 pub mod Records
-pub mod Script
-pub mod Statements
+pub mod Runs
 pub mod Stops
-pub mod Table
-pub mod World

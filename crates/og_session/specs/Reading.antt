@@ -1,7 +1,7 @@
 -- What reading a source to its end gives.
 use Rattle.std.specs.Prelude.{◌≡◌, ◌≤◌, ◌<◌, ℕ, List, [], length, Option, Some, Result, Ok, Err, Vec}
 use Rattle.std.specs.declared.alloc.Global.{Global}
-use Rattle.og_session.specs.Output.{source_limit}
+use Rattle.og_session.specs.Runs.{source_limit}
 use Rattle.og_session.specs.declared.source.SourceRefusal.{SourceRefusal}
 use Rattle.og_session.specs.declared.source.SourceRefusal.TheVariants as refusal
 

@@ -1,4 +1,7 @@
 -- What a refusal below makes of a run.
+use Rattle.std.specs.Prelude.{ℕ}
+use Rattle.og_check.specs.declared.refusal.CheckRefusal.{CheckRefusal}
+use Rattle.og_check.specs.declared.refusal.CheckRefusal.TheVariants as checks
 use Rattle.og_io.specs.declared.sink.PutRefusal.{PutRefusal}
 use Rattle.og_io.specs.declared.sink.PutRefusal.TheVariants as puts
 use Rattle.og_lex.specs.declared.refusal.LexRefusal.{LexRefusal}
@@ -8,8 +11,6 @@ use Rattle.og_parse.specs.declared.refusal.ParseRefusal.TheVariants as parses
 use Rattle.og_session.specs.declared.fault.Fault.TheVariants as faults
 use Rattle.og_session.specs.declared.fault.Stop.{Stop}
 use Rattle.og_session.specs.declared.fault.Stop.TheVariants.{Fault, ReadFault, WriteFault, NoMemory}
-use Rattle.og_session.specs.declared.script.ScriptRefusal.{ScriptRefusal}
-use Rattle.og_session.specs.declared.script.ScriptRefusal.TheVariants as scripts
 use Rattle.og_session.specs.declared.source.SourceRefusal.{SourceRefusal}
 use Rattle.og_session.specs.declared.source.SourceRefusal.TheVariants as sources
 
@@ -38,7 +39,7 @@ stop_of_parse (parses.TooDeep statement) = Fault (faults.TooDeep statement)
 stop_of_parse (parses.Literal statement) = Fault (faults.Literal statement)
 stop_of_parse parses.NoMemory = NoMemory
 
--- of the script
-abbrev pub stop_of_script : ScriptRefusal → Stop
-stop_of_script (scripts.Syntax statement) = Fault (faults.Syntax statement)
-stop_of_script scripts.NoMemory = NoMemory
+-- of the checks of the statement with that number
+abbrev pub stop_of_check : ℕ → CheckRefusal → Stop
+stop_of_check n checks.NoMemory = NoMemory
+stop_of_check n refusal = Fault (faults.Check n refusal)

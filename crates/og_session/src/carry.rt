@@ -1,47 +1,54 @@
 //! Carries out a script, up to its fault's line.
-ghost use Rattle.std.specs.Prelude.{◌≡◌, ◌≤◌, ◌↔◌, [], ◌∷◌, IsTrue, ℕ, List, Ok, Err, Some, IfOk, IfErr, OnOk, OnErr, length};
+ghost use Rattle.std.specs.Prelude.{◌≡◌, ◌≤◌, ◌↔◌, [], ◌∷◌, IsTrue, ℕ, List, Ok, Err, Some, None, IfOk, IfErr, OnOk, OnErr, length};
 ghost use Rattle.std.specs.Io.KnownBytes.{Appends};
-ghost use Rattle.og_base.specs.Told.{Rose, AppendsFront};
-ghost use Rattle.og_io.specs.declared.sink.PutRefusal.{PutRefusal};
-ghost use Rattle.og_session.specs.Actions.{statements_of};
-ghost use Rattle.og_session.specs.Ends.{EndsUnreported};
-ghost use Rattle.og_session.specs.Headline.{IsTold};
-ghost use Rattle.og_session.specs.Output.{IsRun, AreTrees, output_from, source_limit};
+ghost use Rattle.og_base.specs.Told.{Rose};
+ghost use Rattle.og_session.specs.Ends.{EndsUnreported, RunEnds, status_of};
+ghost use Rattle.og_session.specs.Headline.{IsTold, IsBeforeStatements};
+ghost use Rattle.og_session.specs.Runs.{IsRun, AreTrees, first_unbuilt, run_from, source_limit};
+ghost use Rattle.og_session.specs.Runs as spec;
 ghost use Rattle.og_session.specs.declared.fault.Fault.{Fault};
 ghost use Rattle.og_session.specs.declared.fault.Stop.{Stop};
 
 use crate::fault::{Fault, Stop};
 use crate::law::one_defined_run;
-use crate::script::Script;
 use crate::source::read_source;
-use crate::table::Table;
+use crate::step::step;
 use og_base::Words;
-use og_io::{PutRefusal, Sink, Source};
+use og_db::{Db, no_statements};
+use og_io::{Sink, Source};
 use og_lex::lex;
-use og_parse::{Script as Tree, parse};
+use og_parse::{Script, parse};
+use og_syntax::Stmt;
 use std::alloc::Global;
+use std::thread::Threads;
 
-/// Runs the command that the words are, and writes what it prints, up to the line of a fault.
-pub fn carry_out<S: Source, K: Sink>(
+/// Runs the command that the words are over a database without names, and writes what it prints, up to
+/// the line of a fault.
+pub fn carry_out<H: Threads + Sync, S: Source, K: Sink>(
+    rt: &H,
     alloc: Global,
     words: &Words,
     src: &mut S,
     out: &mut K,
+    db: &mut Db,
 ) -> Result<(), Stop>
+    requires { db.old ≡ [] }
     ensures told { (source : List ℕ) → IsTold words.now (S.left src.old) source →
-        (text : List ℕ) × Appends (K.written out.old) (K.written out.new) text × EndsUnreported words.now source text result }
+        (text : List ℕ) × Appends (K.written out.old) (K.written out.new) text × EndsUnreported words.now source db.new text result }
     ensures words { (result ≡ Err (Stop.Fault Fault.Words)) ↔ (¬ IsRun words.now) }
     ensures drained { (source : List ℕ) → IsRun words.now → S.left src.old ≡ Some source → OnOk result (S.left src.new ≡ Some []) }
     ensures untouched { ¬ IsRun words.now → src.new ≡ src.old }
     ensures read_fault { result ≡ Err Stop.ReadFault → IsRun words.now × Rose (S.faults src.old) (S.faults src.new) }
     ensures write_fault { result ≡ Err Stop.WriteFault → Rose (K.faults out.old) (K.faults out.new) }
     ensures later { K.faults out.old ≤ K.faults out.new }
+    ensures no_names { IsBeforeStatements (status_of result) → db.new ≡ [] }
 {
+    no_statements();
     if !is_run(words) {
         return Err(Stop::Fault(Fault::Words));
     }
     let bytes = read_source(alloc, src)?;
-    run_bytes(alloc, bytes.as_slice(), out)
+    run_bytes(rt, alloc, bytes.as_slice(), out, db)
 }
 
 // Whether the words are the command run.
@@ -52,53 +59,89 @@ fn is_run(words: &Words) -> bool
 }
 
 // Reads the bytes as a script and runs it.
-fn run_bytes<K: Sink>(alloc: Global, bytes: &[u8], out: &mut K) -> Result<(), Stop>
-    requires { length bytes.now ≤ source_limit }
+fn run_bytes<H: Threads + Sync, K: Sink>(
+    rt: &H,
+    alloc: Global,
+    bytes: &[u8],
+    out: &mut K,
+    db: &mut Db,
+) -> Result<(), Stop>
+    requires small { length bytes.now ≤ source_limit }
+    requires empty { db.old ≡ [] }
     ensures ends { (words : List (List ℕ)) → IsRun words →
-        (text : List ℕ) × Appends (K.written out.old) (K.written out.new) text × EndsUnreported words bytes.now text result }
+        (text : List ℕ) × Appends (K.written out.old) (K.written out.new) text × EndsUnreported words bytes.now db.new text result }
     ensures words { result ≡ Err (Stop.Fault Fault.Words) → ⊥ }
     ensures read_fault { result ≡ Err Stop.ReadFault → ⊥ }
     ensures write_fault { result ≡ Err Stop.WriteFault → Rose (K.faults out.old) (K.faults out.new) }
     ensures later { K.faults out.old ≤ K.faults out.new }
+    ensures no_names { IsBeforeStatements (status_of result) → db.new ≡ [] }
 {
     one_defined_run();
-    let tree = tree_of(alloc, bytes)?;
-    let Some(script) = Script::of(alloc, tree.stmts.as_slice())? else {
-        return Ok(());
-    };
-    run_script(alloc, &script, out)?;
-    Ok(())
+    no_statements();
+    let script = tree_of(alloc, bytes)?;
+    if let Some(statement) = first_unbuilt(script.stmts.as_slice()) {
+        return Err(Stop::Fault(Fault::Syntax { statement }));
+    }
+    run_statements(rt, alloc, script.stmts.as_slice(), out, db)
 }
 
 // The tree of the bytes.
-fn tree_of(alloc: Global, bytes: &[u8]) -> Result<Tree, Stop>
+fn tree_of(alloc: Global, bytes: &[u8]) -> Result<Script, Stop>
     requires { length bytes.now ≤ source_limit }
     ensures tree { IfOk result (λ tree. AreTrees bytes.now tree.stmts) }
-    ensures stopped { (words : List (List ℕ)) → IsRun words → IfErr result (λ stop. EndsUnreported words bytes.now [] (Err stop)) }
+    ensures stopped { (words : List (List ℕ)) → IsRun words → IfErr result (λ stop. EndsUnreported words bytes.now [] [] (Err stop)) }
     ensures words { result ≡ Err (Stop.Fault Fault.Words) → ⊥ }
     ensures read_fault { result ≡ Err Stop.ReadFault → ⊥ }
     ensures write_fault { result ≡ Err Stop.WriteFault → ⊥ }
 {
+    no_statements();
     let tokens = lex(alloc, bytes)?;
     let tree = parse(alloc, bytes, tokens.as_slice())?;
     Ok(tree)
 }
 
-/// Runs the script's statements in order and writes what they print. Where the sink refuses a piece,
-/// a front of the output was written, and nothing is done after it.
-pub fn run_script<K: Sink>(
-    alloc: Global,
-    script: &Script<'_>,
-    out: &mut K,
-) -> Result<(), PutRefusal>
-    ensures written { OnOk result (Appends (K.written out.old) (K.written out.new) (output_from [] (statements_of script.now.name.now script.now.column.now script.now.actions.items))) }
-    ensures refused { OnErr result (AppendsFront (K.written out.old) (K.written out.new) (output_from [] (statements_of script.now.name.now script.now.column.now script.now.actions.items))) }
-    ensures later { K.faults out.old ≤ K.faults out.new }
-    ensures failed { result ≡ Err PutRefusal.Failed → Rose (K.faults out.old) (K.faults out.new) }
+// The number of the first statement, counted from 1, that does not run.
+fn first_unbuilt(stmts: &[Stmt]) -> Option<usize>
+    ensures { result ≡ spec.first_unbuilt 1 stmts.now }
 {
-    let mut table = Table::new(alloc, script.column);
-    'actions: for action in &script.actions {
-        table.act(alloc, action, out)?;
+    'stmts: for place in 0..stmts.len() {
+        if !is_built(&stmts[place]) {
+            return Some(place + 1);
+        }
+    }
+    None
+}
+
+// Whether the statement runs: all do but those of files, VALID and LIVE.
+fn is_built(stmt: &Stmt) -> bool
+    ensures { result ≡ spec.is_built stmt.now }
+{
+    !matches!(
+        stmt,
+        Stmt::Save { .. }
+            | Stmt::OpenFile { .. }
+            | Stmt::ImportFile { .. }
+            | Stmt::Valid { .. }
+            | Stmt::Live { .. }
+    )
+}
+
+// Runs the statements in order, up to the first with a fault.
+fn run_statements<H: Threads + Sync, K: Sink>(
+    rt: &H,
+    alloc: Global,
+    stmts: &[Stmt],
+    out: &mut K,
+    db: &mut Db,
+) -> Result<(), Stop>
+    requires { db.old ≡ [] }
+    ensures ends { (text : List ℕ) × Appends (K.written out.old) (K.written out.new) text × RunEnds (run_from 1 [] stmts.now) db.new text result }
+    ensures write_fault { result ≡ Err Stop.WriteFault → Rose (K.faults out.old) (K.faults out.new) }
+    ensures later { K.faults out.old ≤ K.faults out.new }
+{
+    no_statements();
+    'stmts: for place in 0..stmts.len() {
+        step(rt, alloc, place + 1, &stmts[place], out, db)?;
     }
     Ok(())
 }

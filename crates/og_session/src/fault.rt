@@ -1,20 +1,23 @@
 //! Faults, their lines and statuses, and what else stops a run.
 ghost use Rattle.std.specs.Prelude.{◌≡◌, Err, IfOk, IfSome, IfNone, string_bytes};
-ghost use Rattle.og_session.specs.declared.fault.Fault.{Fault};
-ghost use Rattle.og_session.specs.declared.fault.Stop.TheVariants as stops;
+ghost use Rattle.og_check.specs.declared.refusal.CheckRefusal.TheVariants as checks;
 ghost use Rattle.og_session.specs.Ends.{status_of};
+ghost use Rattle.og_session.specs.Lines as lines;
+ghost use Rattle.og_session.specs.declared.fault.Fault as declared;
+ghost use Rattle.og_session.specs.declared.fault.Stop.TheVariants as stops;
 
-use crate::script::ScriptRefusal;
 use crate::source::SourceRefusal;
 use og_base::NoMemory;
+use og_check::CheckRefusal;
 use og_io::PutRefusal;
 use og_lex::LexRefusal;
 use og_parse::ParseRefusal;
+use og_value::Kind;
 use std::alloc::Global;
 use thiserror::Error;
 
-/// What is wrong with the words or with the script (docs/LANGUAGE.md, "Faults").
-#[derive(Clone, Copy, Debug, PartialEq, Eq, Error)]
+/// What is wrong with the words, with the script or with a statement (docs/LANGUAGE.md, "Faults").
+#[derive(Debug, Drop, Error)]
 pub enum Fault {
     /// The words are no command.
     #[error("the words are no command")]
@@ -24,30 +27,48 @@ pub enum Fault {
     SourceTooLong,
     /// No token begins at that place, counted in bytes from 0.
     #[error("no token at {offset}")]
-    BadByte { offset: usize },
+    BadByte {
+        offset: usize,
+    },
     /// The text that begins at that place does not close.
     #[error("open text at {offset}")]
-    OpenText { offset: usize },
+    OpenText {
+        offset: usize,
+    },
     /// The number that begins at that place is outside 64 bits.
     #[error("number out of range at {offset}")]
-    NumberRange { offset: usize },
+    NumberRange {
+        offset: usize,
+    },
     /// The statement with that number, counted from 1, is none that runs.
     #[error("statement {statement} is no statement that runs")]
-    Syntax { statement: usize },
+    Syntax {
+        statement: usize,
+    },
     /// The statement with that number is nested too deep.
     #[error("statement {statement} is too deep")]
-    TooDeep { statement: usize },
+    TooDeep {
+        statement: usize,
+    },
     /// A quoted text of the statement with that number is not of its form.
     #[error("a literal of statement {statement} is not of its form")]
-    Literal { statement: usize },
+    Literal {
+        statement: usize,
+    },
+    /// The names, kinds or counts of the statement with that number do not fit.
+    #[error("statement {statement}: {refusal}")]
+    Check {
+        statement: usize,
+        refusal: CheckRefusal,
+    },
 }
 
 impl Fault {
     ghost use Rattle.og_session.specs.Ends.{fault_line, fault_status};
 
-    /// The line that the run writes last.
-    pub fn line(self, alloc: Global) -> Result<String, NoMemory>
-        ensures { IfOk result (λ line. string_bytes line ≡ fault_line self) }
+    /// The line that the run writes last (docs/LANGUAGE.md, "Faults").
+    pub fn line(&self, alloc: Global) -> Result<String, NoMemory>
+        ensures { IfOk result (λ line. string_bytes line ≡ fault_line self.now) }
     {
         let line = match self {
             Fault::Words => String::from_str(alloc, "fault words\n")?,
@@ -66,25 +87,140 @@ impl Fault {
             Fault::Literal { statement } => {
                 format!(in alloc; "fault literal statement {statement}\n")?
             }
+            Fault::Check { statement, refusal } => check_line(alloc, *statement, refusal)?,
         };
         Ok(line)
     }
 
     /// The exit status.
-    pub fn status(self) -> u8
-        ensures { result ≡ fault_status self }
+    pub fn status(&self) -> u8
+        ensures { result ≡ fault_status self.now }
     {
         match self {
             Fault::Words => 2,
+            Fault::Check { .. } => 4,
             _ => 3,
         }
     }
 }
 
+// The line of a refusal of the checks.
+fn check_line(alloc: Global, statement: usize, refusal: &CheckRefusal) -> Result<String, NoMemory>
+    ensures { IfOk result (λ line. string_bytes line ≡ lines.check_line statement refusal.now) }
+{
+    match refusal {
+        CheckRefusal::NoSuchName { name } => {
+            line_with(
+                alloc,
+                "fault no such name statement ",
+                statement,
+                name.as_str(),
+            )
+        }
+        CheckRefusal::NameTaken { name } => {
+            line_with(
+                alloc,
+                "fault name taken statement ",
+                statement,
+                name.as_str(),
+            )
+        }
+        CheckRefusal::NoSuchColumn { name } => {
+            line_with(
+                alloc,
+                "fault no such column statement ",
+                statement,
+                name.as_str(),
+            )
+        }
+        CheckRefusal::AmbiguousColumn { name } => {
+            line_with(
+                alloc,
+                "fault ambiguous column statement ",
+                statement,
+                name.as_str(),
+            )
+        }
+        CheckRefusal::KindsDiffer { found, wanted } => {
+            kinds_line(alloc, statement, *found, *wanted)
+        }
+        CheckRefusal::CountsDiffer { found, wanted } => {
+            counts_line(alloc, statement, *found, *wanted)
+        }
+        CheckRefusal::TooMany { found, limit } => many_line(alloc, statement, *found, *limit),
+        CheckRefusal::NoMemory => Ok(String::new(alloc)),
+    }
+}
+
+// A line with the number of a statement, and what follows it.
+fn line_with(alloc: Global, words: &str, statement: usize, more: &str) -> Result<String, NoMemory>
+    ensures { IfOk result (λ line. string_bytes line ≡ lines.numbered_with words.now statement more.now) }
+{
+    let line = format!(in alloc; "{words}{statement}: {more}\n")?;
+    Ok(line)
+}
+
+// The line where kinds differ.
+fn kinds_line(
+    alloc: Global,
+    statement: usize,
+    found: Kind,
+    wanted: Kind,
+) -> Result<String, NoMemory>
+    ensures { IfOk result (λ line. string_bytes line ≡ lines.check_line statement (checks.KindsDiffer found wanted)) }
+{
+    let found = kind_word(found);
+    let wanted = kind_word(wanted);
+    let line = format!(in alloc;
+        "fault kinds differ statement {statement}: {found} for {wanted}\n"
+    )?;
+    Ok(line)
+}
+
+// The line where counts differ.
+fn counts_line(
+    alloc: Global,
+    statement: usize,
+    found: usize,
+    wanted: usize,
+) -> Result<String, NoMemory>
+    ensures { IfOk result (λ line. string_bytes line ≡ lines.check_line statement (checks.CountsDiffer found wanted)) }
+{
+    let line = format!(in alloc;
+        "fault counts differ statement {statement}: {found} for {wanted}\n"
+    )?;
+    Ok(line)
+}
+
+// The line where there are too many.
+fn many_line(
+    alloc: Global,
+    statement: usize,
+    found: usize,
+    limit: usize,
+) -> Result<String, NoMemory>
+    ensures { IfOk result (λ line. string_bytes line ≡ lines.check_line statement (checks.TooMany found limit)) }
+{
+    let line = format!(in alloc; "fault too many statement {statement}: {found} of {limit}\n")?;
+    Ok(line)
+}
+
+// The word of a kind.
+fn kind_word(kind: Kind) -> &'static str
+    ensures { result.now ≡ lines.kind_word kind }
+{
+    match kind {
+        Kind::Int => "INT",
+        Kind::Text => "TEXT",
+        Kind::Date => "DATE",
+        Kind::Period => "PERIOD",
+    }
+}
+
 /// What stops a run.
-#[derive(Clone, Copy, Debug, PartialEq, Eq, Error)]
+#[derive(Debug, Drop, Error)]
 pub enum Stop {
-    /// A fault of the words or the script.
+    /// A fault of the words, of the script or of a statement.
     #[error("{0}")]
     Fault(Fault),
     /// The source failed.
@@ -96,6 +232,16 @@ pub enum Stop {
     /// Memory ran out.
     #[error("want of memory")]
     NoMemory,
+}
+
+impl From<NoMemory> for Stop {
+    ghost use Rattle.og_session.specs.declared.fault.Stop.{Stop};
+
+    ghost from_gives = { λ _ stop. stop ≡ Stop.NoMemory };
+
+    fn from(_: NoMemory) -> Stop {
+        Stop::NoMemory
+    }
 }
 
 impl From<PutRefusal> for Stop {
@@ -155,22 +301,34 @@ impl From<ParseRefusal> for Stop {
     }
 }
 
-impl From<ScriptRefusal> for Stop {
-    ghost use Rattle.og_session.specs.Stops.{stop_of_script};
+impl Stop {
+    ghost use Rattle.og_session.specs.Stops.{stop_of_check};
 
-    ghost from_gives = { λ refusal stop. stop ≡ stop_of_script refusal };
-
-    fn from(refusal: ScriptRefusal) -> Stop {
+    /// What a refusal of the checks of the statement with that number, counted from 1, makes of a run.
+    pub fn of_check(statement: usize, refusal: CheckRefusal) -> Stop
+        ensures { result ≡ stop_of_check statement refusal }
+    {
         match refusal {
-            ScriptRefusal::Syntax { statement } => Stop::Fault(Fault::Syntax { statement }),
-            ScriptRefusal::NoMemory => Stop::NoMemory,
+            CheckRefusal::NoMemory => Stop::NoMemory,
+            refusal => Stop::Fault(Fault::Check { statement, refusal }),
         }
     }
 }
 
+/// The fault that ended a run, if it was one.
+pub fn fault_of(end: &Result<(), Stop>) -> Option<&Fault>
+    ensures fault { IfSome result (λ fault. end.now ≡ Err (stops.Fault fault.now)) }
+    ensures none { IfNone result ((fault : declared.Fault) → end.now ≡ Err (stops.Fault fault) → ⊥) }
+{
+    match end {
+        Err(Stop::Fault(fault)) => Some(fault),
+        _ => None,
+    }
+}
+
 /// The exit status of a run's end.
-pub fn status_of(end: Result<(), Stop>) -> u8
-    ensures { result ≡ status_of end }
+pub fn status_of(end: &Result<(), Stop>) -> u8
+    ensures { result ≡ status_of end.now }
 {
     match end {
         Ok(()) => 0,
@@ -178,16 +336,5 @@ pub fn status_of(end: Result<(), Stop>) -> u8
         Err(Stop::ReadFault) => 6,
         Err(Stop::WriteFault) => 8,
         Err(Stop::NoMemory) => 9,
-    }
-}
-
-/// The fault with which a run ended, if it has one.
-pub fn fault_of(end: Result<(), Stop>) -> Option<Fault>
-    ensures fault { IfSome result (λ fault. end ≡ Err (stops.Fault fault)) }
-    ensures none { IfNone result ((fault : Fault) → end ≡ Err (stops.Fault fault) → ⊥) }
-{
-    match end {
-        Err(Stop::Fault(fault)) => Some(fault),
-        _ => None,
     }
 }

@@ -1,15 +1,13 @@
-//! Runs a script and writes what it prints.
+//! Runs of scripts: the words, the source, the sink and the database of a run in, an exit status out.
 #![tactic(auto)]
 
-mod action;
 mod carry;
 mod fault;
 mod law;
+mod pieces;
 mod records;
-mod script;
 mod session;
 mod source;
-mod table;
+mod step;
 
-pub use law::one_defined_run;
 pub use session::run;

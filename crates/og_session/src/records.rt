@@ -1,46 +1,136 @@
-//! The records of a printed table.
-ghost use Rattle.std.specs.Prelude.{◌≡◌, ◌++◌, ◌∷◌, [], ℕ, List, IfOk, OnOk};
+//! The records that statements print, as csv writes them.
+ghost use Rattle.std.specs.Prelude.{◌≡◌, ◌++◌, ◌∷◌, [], ℕ, List, IfOk, OnOk, map};
 ghost use Rattle.csv.specs.Writing.{default_writer, row_text};
-ghost use Rattle.og_session.specs.Output.{layout};
-ghost use Rattle.og_session.specs.Records.{HasText};
+ghost use Rattle.og_value.specs.Cells.{fixed_text};
+ghost use Rattle.og_session.specs.Output.{layout, names_text, what_word};
+ghost use Rattle.og_session.specs.Records.{HasText, HasFields};
 
 use csv::{Error, Writer, WriterBuilder};
-use og_base::{ExtDay, NoMemory, write_day};
+use og_base::NoMemory;
+use og_db::Db;
+use og_value::{Catalog, FixedRow, FixedValue, Name, Schema, What, write_fixed};
 use std::alloc::Global;
 
-/// The records of a table as a PRINT writes them: the column's name, then each day, one record a line.
-pub fn layout(alloc: Global, column: &[u8], days: &[ExtDay]) -> Result<Vec<u8>, NoMemory>
-    ensures { IfOk result (λ v. v.items ≡ layout column.now days.now) }
+/// The rows as a PRINT writes them: a record of the columns' names, then one of the texts of each
+/// row's values.
+pub fn layout(alloc: Global, schema: &Schema, rows: &[FixedRow]) -> Result<Vec<u8>, NoMemory>
+    ensures { IfOk result (λ v. v.items ≡ layout schema.now rows.now) }
 {
-    match all_records(alloc, column, days) {
+    match row_records(alloc, schema, rows) {
         Ok(text) => Ok(text),
         Err(_) => Err(NoMemory),
     }
 }
 
-// The records, or the error of the writer, which is want of memory.
-fn all_records(alloc: Global, column: &[u8], days: &[ExtDay]) -> Result<Vec<u8>, Error>
-    ensures { IfOk result (λ v. v.items ≡ layout column.now days.now) }
+/// The names as TABLES writes them: the record `name,what`, then one for each name.
+pub fn names_text(alloc: Global, db: &Db) -> Result<Vec<u8>, NoMemory>
+    ensures { IfOk result (λ v. v.items ≡ names_text db.now) }
+{
+    match name_records(alloc, db) {
+        Ok(text) => Ok(text),
+        Err(_) => Err(NoMemory),
+    }
+}
+
+// The records of the rows, or the error of the writer, which is want of memory.
+fn row_records(alloc: Global, schema: &Schema, rows: &[FixedRow]) -> Result<Vec<u8>, Error>
+    ensures { IfOk result (λ v. v.items ≡ layout schema.now rows.now) }
 {
     let mut writer = WriterBuilder::new().from_writer(Vec::new(alloc));
-    write_record(&mut writer, column)?;
+    write_header(&mut writer, schema)?;
     let mut cell = Vec::new(alloc);
-    'days: for day in days {
-        cell.clear();
-        let Ok(()) = write_day(*day, &mut cell) else {
-            return Err(Error::out_of_memory());
-        };
-        write_record(&mut writer, cell.as_slice())?;
+    'rows: for row in rows {
+        write_row(&mut writer, row, &mut cell)?;
     }
+    text_of(writer)
+}
+
+// The records of the names, or the error of the writer, which is want of memory.
+fn name_records(alloc: Global, db: &Db) -> Result<Vec<u8>, Error>
+    ensures { IfOk result (λ v. v.items ≡ names_text db.now) }
+{
+    let mut writer = WriterBuilder::new().from_writer(Vec::new(alloc));
+    writer.write_fields(&[b"name", b"what"])?;
+    db.names_differ();
+    'names: for i in 0..db.len() {
+        let name = db.name_at(i);
+        let Some(what) = db.what(name) else {
+            unreachable!();
+        };
+        write_name(&mut writer, name, what)?;
+    }
+    text_of(writer)
+}
+
+// The word of what a name is.
+fn what_word(what: What) -> &'static [u8]
+    ensures { result.now ≡ what_word what }
+{
+    match what {
+        What::Table => b"table",
+        What::Kept => b"kept",
+        What::Live => b"live",
+    }
+}
+
+// What was written.
+fn text_of(writer: Writer<Vec<u8>>) -> Result<Vec<u8>, Error>
+    ensures { IfOk result (λ v. (text : List ℕ) → HasText writer text → v.items ≡ text) }
+{
     match writer.into_inner() {
         Ok(text) => Ok(text),
         Err(e) => Err(e.into_error()),
     }
 }
 
-// Writes a record of one field.
-fn write_record(writer: &mut Writer<Vec<u8>>, field: &[u8]) -> Result<(), Error>
-    ensures { OnOk result ((text : List ℕ) → HasText writer.old text → HasText writer.new (text ++ row_text default_writer (field.now ∷ []))) }
+// Writes the record of a name and of what it is.
+fn write_name(writer: &mut Writer<Vec<u8>>, name: &Name, what: What) -> Result<(), Error>
+    ensures { OnOk result ((text : List ℕ) → HasText writer.old text →
+        HasText writer.new (text ++ row_text default_writer (name.now ∷ what_word what ∷ []))) }
 {
-    writer.write_fields(&[field])
+    writer.write_field(name.bytes())?;
+    writer.write_field(what_word(what))?;
+    writer.end_record()
+}
+
+// Writes a record of the columns' names.
+fn write_header(writer: &mut Writer<Vec<u8>>, schema: &Schema) -> Result<(), Error>
+    ensures { OnOk result ((text : List ℕ) → HasText writer.old text →
+        HasText writer.new (text ++ row_text default_writer (map (λ column. column.name) schema.now))) }
+{
+    'columns: for i in 0..schema.len() {
+        writer.write_field(schema.column(i).name.bytes())?;
+    }
+    writer.end_record()
+}
+
+// Writes a record of the texts of the row's values. The texts of those that have none of their own
+// are made in the cell, which the caller keeps from row to row.
+fn write_row(writer: &mut Writer<Vec<u8>>, row: &FixedRow, cell: &mut Vec<u8>) -> Result<(), Error>
+    ensures { OnOk result ((text : List ℕ) → HasText writer.old text →
+        HasText writer.new (text ++ row_text default_writer (map fixed_text row.now))) }
+{
+    'values: for i in 0..row.len() {
+        write_value(writer, row.value(i), cell)?;
+    }
+    writer.end_record()
+}
+
+// Writes the text of a value as a field.
+fn write_value(
+    writer: &mut Writer<Vec<u8>>,
+    value: &FixedValue,
+    cell: &mut Vec<u8>,
+) -> Result<(), Error>
+    ensures { OnOk result ((text : List ℕ) (fields : List (List ℕ)) → HasFields writer.old text fields →
+        HasFields writer.new text (fields ++ fixed_text value.now ∷ [])) }
+{
+    if let FixedValue::Text(text) = value {
+        return writer.write_field(text.bytes());
+    }
+    cell.clear();
+    let Ok(()) = write_fixed(value, cell) else {
+        return Err(Error::out_of_memory());
+    };
+    writer.write_field(cell.as_slice())
 }

@@ -1,7 +1,7 @@
 //! Reads the source to its end.
 ghost use Rattle.std.specs.Prelude.{◌≡◌, ◌≤◌, ℕ, List, Some, Err, IfOk, length};
 ghost use Rattle.og_base.specs.Told.{Rose};
-ghost use Rattle.og_session.specs.Output.{source_limit};
+ghost use Rattle.og_session.specs.Runs.{source_limit};
 ghost use Rattle.og_session.specs.Reading.{IsReading};
 
 use og_io::Source;

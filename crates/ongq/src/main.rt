@@ -2,6 +2,7 @@
 #![tactic(auto)]
 
 use og_base::Words;
+use og_db::Db;
 use og_io::{StdSink, StdSource};
 use og_session::run;
 use std::env;
@@ -21,7 +22,8 @@ fn main(rt: HostRuntime) -> ExitCode {
         Ok(()) => {
             let mut src = StdSource::new(rt.stdin());
             let mut out = StdSink::new(rt.stdout());
-            ExitCode::from(run(&rt, rt.alloc(), &words, &mut src, &mut out))
+            let mut db = Db::new(rt.alloc());
+            ExitCode::from(run(&rt, rt.alloc(), &words, &mut src, &mut out, &mut db))
         }
         Err(status) => ExitCode::from(status),
     }

@@ -1,7 +1,7 @@
 -- The bytes read so far were at the front of the source, they are no more than the limit, and each turn brought one or more.
 use Rattle.std.proofs.Common.{◌≤◌, length}
 use Rattle.std.specs.Io.KnownBytes.{Consumes}
-use Rattle.og_session.specs.Output.{source_limit}
+use Rattle.og_session.specs.Runs.{source_limit}
 use Rattle.og_session.proofs.source.read_source.Given as goal
 
 abbrev pub invariant-parts : goal.invariant-parts

@@ -1,0 +1,14 @@
+-- The lines of faults.
+use Rattle.std.proofs.Common.{◌≡◌, ◌++◌, ℕ, List, [], ◌∷◌, codes, sym, ◌∙◌}
+use Rattle.std.specs.Fmt.{decimal}
+use Rattle.std.proofs.lemmas.List.{append_assoc}
+use Rattle.og_session.specs.Lines.{numbered_between}
+
+-- a line that is put together from its end
+pub line-between : (words : List ℕ) (n : ℕ) (found between wanted : List ℕ) → words ++ (decimal n ++ (codes ": " ++ (found ++ (between ++ (wanted ++ 10 ∷ []))))) ≡ numbered_between words n found between wanted
+line-between words n found between wanted =
+    sym (append_assoc (words ++ decimal n ++ codes ": " ++ found ++ between) wanted (10 ∷ [])
+    ∙ append_assoc (words ++ decimal n ++ codes ": " ++ found) between (wanted ++ 10 ∷ [])
+    ∙ append_assoc (words ++ decimal n ++ codes ": ") found (between ++ (wanted ++ 10 ∷ []))
+    ∙ append_assoc (words ++ decimal n) (codes ": ") (found ++ (between ++ (wanted ++ 10 ∷ [])))
+    ∙ append_assoc words (decimal n) (codes ": " ++ (found ++ (between ++ (wanted ++ 10 ∷ [])))))

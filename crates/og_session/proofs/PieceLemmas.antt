@@ -1,0 +1,65 @@
+-- What statements write, over a database that is the world of each day.
+use Rattle.std.proofs.Common.{◌≡◌, ℕ, ℤ, List, [], ◌∷◌, Option, Some, None, map, codes, refl, sym, ap, ap₂, ◌∙◌}
+use Rattle.std.specs.Option.{option_map}
+use Rattle.std.proofs.lemmas.Option.{same_Some}
+use Rattle.og_base.specs.Calendar.{IsRefDay}
+use Rattle.og_value.specs.Order.{row_order}
+use Rattle.og_value.specs.Values.{row_at}
+use Rattle.og_value.specs.declared.schema.Column.{Column}
+use Rattle.og_rel.specs.Relations.{relation_at}
+use Rattle.og_query.specs.Queries.{Fixed, ordinary_query}
+use Rattle.og_query.specs.declared.query.Query.{Query}
+use Rattle.og_query.specs.declared.typed.Typed.{Typed}
+use Rattle.og_query.specs.declared.typed.Typed.TheVariants as t
+use Rattle.og_db.specs.Database.{Relation, world_at}
+use Rattle.og_db.specs.Held.{Held, described, found, made_of}
+use Rattle.og_db.specs.Runs.{AreWithin, IsWorldOf, sizes_at}
+use Rattle.og_db.specs.Statements.{named_rows}
+use Rattle.og_db.proofs.WorldLemmas.{found-made_of}
+use Rattle.og_session.specs.Output.{held_layout, layout, names_text, piece_of, records, what_word}
+
+-- the record of a name
+abbrev pub name_record : {V : Type 0} → Held V → List (List ℕ)
+name_record h = h.name ∷ what_word h.what ∷ []
+
+module _ (db : List (Held Relation)) (before : List Typed) (world : IsWorldOf db before) where
+  -- a PRINT of a name writes what the name holds on the day
+  pub piece-name : (name : List ℕ) (day : ℤ) → IsRefDay day → held_layout (option_map (made_of (λ rel. relation_at row_order row_at rel day)) (found db name)) ≡ piece_of before (t.PrintName name day)
+  piece-name name day is = ap held_layout (sym (found-made_of (λ rel. relation_at row_order row_at rel day) db name)) ∙ ap (λ w. held_layout (found w name)) (world.worlds day is)
+
+  -- a PRINT of a query writes the ordinary answer on the day
+  pub piece-query : (query : Query) (day : ℤ) (rows : List Fixed) → IsRefDay day → rows ≡ ordinary_query day (named_rows (world_at day db)) query → layout query.first.schema rows ≡ piece_of before (t.PrintQuery query day)
+  piece-query query day rows is answer = ap (layout query.first.schema) (answer ∙ ap (λ w. ordinary_query day (named_rows w) query) (world.worlds day is))
+
+module _ (f : Relation → List Fixed) where
+  -- the layout of what is found
+  pub layout-found : (o : Option (Held Relation)) (columns : List Column) (rel : Relation) → option_map (λ k. k.1) (option_map described o) ≡ Some columns → option_map (λ h. h.rows) o ≡ Some rel
+      → layout columns (f rel) ≡ held_layout (option_map (made_of f) o)
+  layout-found None columns rel e g = cc e
+  layout-found (Some h) columns rel e g = ap₂ (λ cs r. layout cs (f r)) (sym (same_Some h.columns columns e)) (sym (same_Some h.rows rel g))
+
+  -- nothing is laid out where no columns are known
+  pub layout-unknown : (o : Option (Held Relation)) → option_map (λ k. k.1) (option_map described o) ≡ None → [] ≡ held_layout (option_map (made_of f) o)
+  layout-unknown None e = refl
+  layout-unknown (Some h) e = cc e
+
+  -- and where no rows are
+  pub layout-none : (o : Option (Held Relation)) → option_map (λ h. h.rows) o ≡ None → [] ≡ held_layout (option_map (made_of f) o)
+  layout-none None e = refl
+  layout-none (Some h) e = cc e
+
+-- the records of names that are the same
+pub names-within : (a b : List (Held ℕ)) → AreWithin a b → map (name_record {V = ℕ}) a ≡ map (name_record {V = ℕ}) b
+names-within [] [] v = refl
+names-within [] (m ∷ b) v = absurd v
+names-within (h ∷ a) [] v = absurd v
+names-within (h ∷ a) (m ∷ b) v = ap₂ (λ r rs. r ∷ rs) (ap₂ (λ n w. n ∷ what_word w ∷ []) v.0.name (ap (λ k. k.0) v.0.what)) (names-within a b v.1)
+
+-- the records of the names of a database are those of its sizes
+names-sizes : (db : List (Held Relation)) → map (name_record {V = Relation}) db ≡ map (name_record {V = ℕ}) (sizes_at db)
+names-sizes [] = refl
+names-sizes (h ∷ hs) = ap (λ rs. name_record h ∷ rs) (names-sizes hs)
+
+-- TABLES writes the names of the database
+pub piece-tables : (db : List (Held Relation)) (before : List Typed) → IsWorldOf db before → names_text db ≡ piece_of before t.Tables
+piece-tables db before world = ap (λ rs. records ((codes "name" ∷ codes "what" ∷ []) ∷ rs)) (names-sizes db ∙ names-within (sizes_at db) _ world.sizes)
