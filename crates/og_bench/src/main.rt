@@ -1,13 +1,16 @@
-//! og_bench: what sets of days, relations, pairs of rows, differences and scripts cost, beside plain work
-//! of the same size.
+//! og_bench: what sets of days, relations, pairs of rows, differences, joins and scripts cost, beside plain
+//! work of the same size.
 #![tactic(auto)]
 
 mod differences;
+mod joins;
 mod pairs;
+mod plain_joins;
 mod relations;
 mod scripts;
 mod sets;
 
+use crate::joins::Shape;
 use og_base::NoMemory;
 use std::alloc::AllocError;
 use std::env;
@@ -55,6 +58,8 @@ fn main(rt: HostRuntime) -> ExitCode {
         };
         let line = match subject.as_str() {
             "differences" => differences::line(&rt, rt.alloc(), count),
+            "joins" => joins::line(&rt, rt.alloc(), Shape::Keys, count),
+            "overlaps" => joins::line(&rt, rt.alloc(), Shape::Overlaps, count),
             "pairs" => pairs::line(&rt, rt.alloc(), count),
             "sets" => sets::line(&rt, rt.alloc(), count),
             "relations" => relations::line(&rt, rt.alloc(), count),
