@@ -8,8 +8,6 @@ mod insertion;
 mod laws;
 mod sought;
 mod statements;
-#[cfg(test)]
-mod tests;
 
 pub use database::Db;
 pub use laws::{known_names, no_statements};

@@ -1,9 +1,7 @@
 //! Whole runs, from the words and the bytes in to the bytes and the status out; relations of rows of
-//! values and operators on them; and the traits of rows and catalogs at small types.
+//! values and operators on them; and the traits of catalogs and of named relations at one table.
 #![tactic(auto)]
 
-#[cfg(test)]
-mod answers;
 #[cfg(test)]
 mod bugs;
 pub mod catalog;
@@ -17,7 +15,6 @@ mod executions;
 mod faults;
 #[cfg(test)]
 mod further;
-pub mod joins;
 #[cfg(test)]
 mod limits;
 #[cfg(test)]
@@ -28,7 +25,6 @@ mod operators;
 mod prints;
 #[cfg(test)]
 mod relations;
-pub mod rows;
 #[cfg(test)]
 mod runs;
 #[cfg(test)]

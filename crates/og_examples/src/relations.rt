@@ -100,9 +100,12 @@ fn a_relation_is_one_list_for_all_numbers_of_workers(rt: HostRuntime) -> Result<
 }
 
 #[test]
-fn a_row_that_stands_twice_is_listed_once(rt: HostRuntime) -> Result<(), Fail> {
+fn a_row_that_stands_twice_is_listed_once_and_one_without_days_is_left_out(
+    rt: HostRuntime,
+) -> Result<(), Fail> {
     let mut rel = point(rt.alloc(), "now")?;
     rel.append(point(rt.alloc(), "now")?)?;
+    rel.push(row(rt.alloc(), &[])?, RtSet::empty(rt.alloc()))?;
     let copy = rel.copy()?;
     let mut both = rel.copy()?;
     both.append(rel.copy()?)?;

@@ -12,6 +12,3 @@ mod spans;
 mod widths;
 
 pub use run::exec;
-
-#[cfg(test)]
-mod tests;

@@ -6,8 +6,6 @@ mod columns;
 mod comparisons;
 mod conditions;
 mod items;
-#[cfg(test)]
-mod tests;
 mod values;
 
 pub use conditions::{CondDays, PartDays};

@@ -16,6 +16,3 @@ pub use keys::{Keys, key_join};
 pub use laws::each_pair_once;
 pub use spans::{Spans, overlap_join};
 pub use sweep::candidates;
-
-#[cfg(test)]
-mod tests;

@@ -77,21 +77,3 @@ fn single(alloc: Global, mut z: &[u8]) -> Result<Vec<u8>, NoMemory>
     }
     Ok(content)
 }
-
-#[cfg(test)]
-mod tests {
-    use super::*;
-    use std::test::Fail;
-
-    #[test]
-    fn a_doubled_quote_is_one_quote_of_the_content(rt: HostRuntime) -> Result<(), Fail> {
-        let token = Token {
-            kind: TokenKind::Text,
-            start: 1,
-            end: 10,
-        };
-        let content = text_of(rt.alloc(), b"('it''s''')".as_slice(), &token)?;
-        assert_eq!(rt; content.as_slice(), b"it's'".as_slice());
-        Ok(())
-    }
-}

@@ -21,6 +21,3 @@ pub use semijoins::{KeyedRow, semijoin, with_key};
 pub use sets::{Difference, Intersection, Union};
 pub use sift::{Restrict, Select};
 pub use split::Split;
-
-#[cfg(test)]
-mod tests;

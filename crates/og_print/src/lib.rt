@@ -9,6 +9,3 @@ mod statements;
 mod words;
 
 pub use script::print_script;
-
-#[cfg(test)]
-mod tests;

@@ -1,5 +1,5 @@
-//! Scripts by their texts: what is read of them, printed again, checked, and what their queries have on
-//! one day; what the layers below read and write; and a list of names as a catalog.
+//! Scripts by their texts: their tokens, what is read of them, printed again, checked, and what their
+//! queries have on one day; and a list of names as a catalog.
 #![tactic(auto)]
 
 #[cfg(test)]
@@ -8,12 +8,10 @@ mod checks;
 mod evaluations;
 pub mod names;
 #[cfg(test)]
-mod readers;
+mod prints;
 #[cfg(test)]
 mod reprints;
 #[cfg(test)]
 mod scripts;
 #[cfg(test)]
 mod statements;
-#[cfg(test)]
-mod values;

@@ -22,8 +22,8 @@ const K: &str =
 // A table with the point now.
 const T: &str = "CREATE TABLE t (p DATE); INSERT INTO t VALUES (ONGOING 'now');";
 
-// The number of statements of the script, and what is printed for them.
-fn printed(alloc: Global, script: &[u8]) -> Result<(usize, Vec<u8>), Fail> {
+/// The number of statements of the script, and what is printed for them.
+pub fn printed(alloc: Global, script: &[u8]) -> Result<(usize, Vec<u8>), Fail> {
     let tokens = lex(alloc, script)?;
     let tree = parse(alloc, script, tokens.as_slice())?;
     Ok((tree.stmts.len(), print_script(alloc, &tree)?))

@@ -52,6 +52,7 @@ fn named_piece<H: Threads + Sync>(
     ensures { IfOk result (λ text. (before : List Typed) → IsWorldOf db.now before → text.items ≡ piece_of before (t.PrintName name.now day)) }
 {
     order_of_rows();
+    // For its clause: the day is a reference day.
     day.number();
     let Some(schema) = db.schema(name) else {
         return Ok(Vec::new(alloc));
@@ -75,6 +76,7 @@ fn query_piece<H: Threads + Sync>(
     ensures { IfOk result (λ text. (before : List Typed) → IsWorldOf db.now before → text.items ≡ piece_of before (t.PrintQuery query.now day)) }
 {
     order_of_rows();
+    // For its clause: the day is a reference day.
     day.number();
     let rel = db.answer(rt, alloc, query, WORKERS, &OpenGate)?;
     let rows = rel.at_workers(rt, WORKERS, day, &OpenGate)?;

@@ -1,5 +1,60 @@
 //! Scripts whose bytes are no tokens, and tokens that are easily mistaken.
 use crate::scripts::{Reading, assert_read, read_of};
+use og_base::NoMemory;
+use og_lex::{Symbol, Token, TokenKind, lex, text_of};
+use std::alloc::Global;
+use std::process::Abort;
+use std::test::Fail;
+
+// Asserts the tokens of the script, each with its first byte and the one after its last.
+fn assert_tokens<H: AllocGlobal + Abort>(
+    rt: &H,
+    script: &[u8],
+    wanted: &[(TokenKind, usize, usize)],
+) -> Result<(), Fail> {
+    let tokens = lex(rt.alloc(), script)?;
+    assert_eq!(rt; tokens.len(), wanted.len());
+    for (token, (kind, start, end)) in tokens.as_slice().iter().zip(wanted) {
+        assert_eq!(rt; token.kind, *kind, "at {start}");
+        assert_eq!(rt; (token.start, token.end), (*start, *end), "at {start}");
+    }
+    Ok(())
+}
+
+#[test]
+fn each_token_has_its_place_in_the_script(rt: HostRuntime) -> Result<(), Fail> {
+    assert_tokens(
+        &rt,
+        b"_x\r\n-5 --\xff'\n,'it''s'<>9223372036854775807-9223372036854775808 < >=--",
+        &[
+            (TokenKind::Word, 0, 2),
+            (TokenKind::Number(-5), 4, 6),
+            (TokenKind::Sym(Symbol::Comma), 12, 13),
+            (TokenKind::Text, 13, 20),
+            (TokenKind::Sym(Symbol::NotEqual), 20, 22),
+            (TokenKind::Number(i64::MAX), 22, 41),
+            (TokenKind::Number(i64::MIN), 41, 61),
+            (TokenKind::Sym(Symbol::Less), 62, 63),
+            (TokenKind::Sym(Symbol::GreaterEqual), 64, 66),
+        ],
+    )
+}
+
+// The content of a text that stands between parentheses.
+fn content(alloc: Global) -> Result<Vec<u8>, NoMemory> {
+    let token = Token {
+        kind: TokenKind::Text,
+        start: 1,
+        end: 10,
+    };
+    text_of(alloc, b"('it''s''')".as_slice(), &token)
+}
+
+#[test]
+fn a_doubled_quote_is_one_quote_of_the_content(rt: HostRuntime) -> Result<(), NoMemory> {
+    assert_eq!(rt; content(rt.alloc())?.as_slice(), b"it's'".as_slice());
+    Ok(())
+}
 
 #[test]
 fn a_text_goes_to_its_closing_quote(rt: HostRuntime) {

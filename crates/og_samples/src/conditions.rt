@@ -1,6 +1,6 @@
 //! Conditions and items at work once, on a row of a number, a point and a period.
-use super::{CondDays, ItemMap};
 use og_base::{DayCond, Instant, RowMap, read_day, read_ref_day, write_rt};
+use og_expr::{CondDays, ItemMap};
 use og_query::{Cond, Expr};
 use og_value::{Cmp, FixedValue, Func, Kind, Pred, Row, read_cell};
 use sqlite_items::{Boxed, Items};

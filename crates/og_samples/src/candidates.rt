@@ -3,8 +3,8 @@ ghost use Rattle.std.specs.Prelude.{◌≡◌, ◌+◌, ◌≤◌, ◌<◌, ◌<
 ghost use Rattle.og_base.specs.Calendar.{IsExtDay};
 ghost use Rattle.og_join.specs.Overlaps.{Rises};
 
-use crate::candidates;
 use og_base::{ExtDay, NoMemory, Outer, Steps};
+use og_join::candidates;
 use std::alloc::Global;
 use std::marker::Brand;
 use std::sync::ledger::{Blank, Ledger};

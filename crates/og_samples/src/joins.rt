@@ -1,6 +1,6 @@
 //! The traits of joins at a small type: deadlines by their day, with spans that tell nothing.
 ghost use Rattle.std.specs.Prelude.{◌≡◌};
-ghost use Rattle.og_examples.specs.AllDays as spec;
+ghost use Rattle.og_samples.specs.AllDays as spec;
 
 use crate::rows::Deadline;
 use og_base::{ExtDay, FixedPeriod, NoMemory, RefDay};
@@ -32,7 +32,7 @@ impl Keys<Deadline> for ByDay {
 }
 
 impl Spans<Deadline> for ByDay {
-    ghost use Rattle.og_examples.specs.AllDays.{all_days};
+    ghost use Rattle.og_samples.specs.AllDays.{all_days};
 
     ghost left_of = { λ spans row. all_days };
 
