@@ -9,8 +9,9 @@ use crate::day::RefDay;
 use crate::memory::NoMemory;
 use std::alloc::Global;
 
-// How many boundaries four cuts have at most.
-const FOUR_CUTS: usize = 16;
+// For how many boundaries a set may keep room that it does not use: to give back so little costs more
+// time than it saves memory.
+const SPARE: usize = 8;
 
 /// An operation on two sets.
 #[derive(Clone, Copy)]
@@ -97,7 +98,7 @@ pub fn combine(
         turn(&mut boundaries, inside, now, day)?;
         inside = now;
     }
-    boundaries.shrink_to_fit();
+    give_back(&mut boundaries);
     Ok(boundaries)
 }
 
@@ -120,8 +121,8 @@ pub fn are_disjoint(left: &[RefDay], right: &[RefDay]) -> bool
     true
 }
 
-/// The boundaries of the days that all four sets hold, by one pass over the boundaries of all. For sets with the
-/// boundaries of cuts it takes its memory in one growth, before its first boundary.
+/// The boundaries of the days that all four sets hold, by one pass over the boundaries of all. It takes its memory
+/// in one growth, before its first boundary.
 pub fn meet_four(
     alloc: Global,
     first: &[RefDay],
@@ -142,7 +143,14 @@ pub fn meet_four(
     let mut c = Side::of(third);
     let mut d = Side::of(fourth);
     let mut inside = false;
-    let mut boundaries = Vec::with_capacity(alloc, FOUR_CUTS)?;
+    let mut boundaries = Vec::with_capacity(
+        alloc,
+        first
+            .len()
+            .saturating_add(second.len())
+            .saturating_add(third.len())
+            .saturating_add(fourth.len()),
+    )?;
     'pass: while let Some(day) = next_of_four(a.rest, b.rest, c.rest, d.rest) {
         a = a.pass(day);
         b = b.pass(day);
@@ -152,7 +160,7 @@ pub fn meet_four(
         turn(&mut boundaries, inside, now, day)?;
         inside = now;
     }
-    boundaries.shrink_to_fit();
+    give_back(&mut boundaries);
     Ok(boundaries)
 }
 
@@ -198,6 +206,15 @@ fn next_of_four(
         return Some(one);
     };
     if other < one { Some(other) } else { Some(one) }
+}
+
+// Gives back the room that the boundaries do not use, where it is worth it.
+fn give_back(boundaries: &mut Vec<RefDay>)
+    ensures { boundaries.new.items ≡ boundaries.old.items }
+{
+    if boundaries.capacity().saturating_sub(boundaries.len()) > SPARE {
+        boundaries.shrink_to_fit();
+    }
 }
 
 // Adds the day as a boundary, where what is inside changes at it.

@@ -20,7 +20,7 @@ pass-smaller c =
     rw (c.pass-left.ensures.rest, c.pass-right.ensures.rest) (fewer_left c.in-Some.day (c.pass.left.rest.now ∷ c.pass.right.rest.now ∷ []) c.in-Some.ensures.next.reached)
 
 pub returns-clause-rises : goal.returns-clause-rises
-returns-clause-rises c = rw c.shrink_to_fit.ensures.items c.pass.invariant.swept.rises
+returns-clause-rises c = rw c.give_back.ensures c.pass.invariant.swept.rises
 
 pub returns-clause-holds : goal.returns-clause-holds
-returns-clause-holds c d = rw c.shrink_to_fit.ensures.items (IsPass-end c.pass.invariant c.in_default.ensures.ended d)
+returns-clause-holds c d = rw c.give_back.ensures (IsPass-end c.pass.invariant c.in_default.ensures.ended d)
