@@ -27,7 +27,7 @@ mod tests {
 
     #[test]
     fn a_text_is_cut_at_its_first_such_byte(rt: HostRuntime) {
-        for (text, before, after) in [
+        for (text, before, after) in &[
             ("2020-01-01+2021-01-01", "2020-01-01", "2021-01-01"),
             ("a+b+c", "a", "b+c"),
             ("+", "", ""),

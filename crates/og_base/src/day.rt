@@ -112,7 +112,7 @@ mod tests {
 
     #[test]
     fn the_calendar_has_its_days_and_an_infinity_at_each_end(rt: HostRuntime) {
-        for (number, is_reference, is_extended) in [
+        for (number, is_reference, is_extended) in &[
             (-4_371_589, false, false),
             (-4_371_588, false, true),
             (-4_371_587, true, true),
@@ -121,14 +121,14 @@ mod tests {
             (2_932_898, false, false),
         ] {
             assert_eq!(rt;
-                RefDay::from_number(number).is_some(),
-                is_reference,
+                RefDay::from_number(*number).is_some(),
+                *is_reference,
                 "{number}"
             );
-            let day = ExtDay::from_number(number);
-            assert_eq!(rt; day.is_some(), is_extended, "{number}");
+            let day = ExtDay::from_number(*number);
+            assert_eq!(rt; day.is_some(), *is_extended, "{number}");
             if let Some(day) = day {
-                assert_eq!(rt; day.as_ref_day().is_some(), is_reference, "{number}");
+                assert_eq!(rt; day.as_ref_day().is_some(), *is_reference, "{number}");
             }
         }
     }

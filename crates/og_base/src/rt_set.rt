@@ -303,57 +303,58 @@ mod tests {
     fn sets_that_touch_unite_to_one_range(rt: HostRuntime) -> Result<(), NoMemory> {
         let first = days(rt.alloc(), NEW_YEAR, FIFTH)?;
         let second = days(rt.alloc(), FIFTH, NEVER)?;
+        assert!(rt; has_ranges(&first.union(&second)?, &[(NEW_YEAR, NEVER)]));
+        assert!(rt; first.meet(&second)?.is_empty());
+        Ok(())
+    }
+
+    #[test]
+    fn days_are_taken_out_of_a_set(rt: HostRuntime) -> Result<(), NoMemory> {
+        let first = days(rt.alloc(), NEW_YEAR, FIFTH)?;
         let early = days(rt.alloc(), BEFORE, THIRD)?;
-        for (name, set, ranges) in [
-            (
-                "union",
-                &first.union(&second)?,
-                [(NEW_YEAR, NEVER)].as_slice(),
-            ),
-            ("meet", &first.meet(&second)?, [].as_slice()),
-            ("minus", &first.minus(&early)?, [(THIRD, FIFTH)].as_slice()),
-            (
-                "complement",
-                &first.complement()?,
-                [(BEFORE, NEW_YEAR), (FIFTH, NEVER)].as_slice(),
-            ),
-            ("copy", &second.copy()?, [(FIFTH, NEVER)].as_slice()),
-            (
-                "all",
-                &RtSet::all(rt.alloc())?,
-                [(BEFORE, NEVER)].as_slice(),
-            ),
-            (
-                "below -infinity",
-                &RtSet::below(rt.alloc(), ExtDay::NEG)?,
-                [].as_slice(),
-            ),
-            (
-                "above the last day",
-                &RtSet::above(rt.alloc(), ExtDay::of(RefDay::LAST))?,
-                [].as_slice(),
-            ),
-        ] {
-            assert!(rt; has_ranges(set, ranges), "{name}");
-        }
+        assert!(rt; has_ranges(&first.minus(&early)?, &[(THIRD, FIFTH)]));
+        assert!(rt; first.minus(&first)?.is_empty());
+        Ok(())
+    }
+
+    #[test]
+    fn the_other_days_have_a_range_on_either_side(rt: HostRuntime) -> Result<(), NoMemory> {
+        let set = days(rt.alloc(), NEW_YEAR, FIFTH)?;
+        assert!(rt; has_ranges(&set.copy()?, &[(NEW_YEAR, FIFTH)]));
+        let others = set.complement()?;
+        assert!(rt; has_ranges(&others, &[(BEFORE, NEW_YEAR), (FIFTH, NEVER)]));
+        assert!(rt; set.is_disjoint(&others));
+        Ok(())
+    }
+
+    #[test]
+    fn no_day_is_below_all_or_above_the_last(rt: HostRuntime) -> Result<(), NoMemory> {
+        assert!(rt; RtSet::below(rt.alloc(), ExtDay::NEG)?.is_empty());
+        assert!(rt; RtSet::above(rt.alloc(), ExtDay::of(RefDay::LAST))?.is_empty());
         Ok(())
     }
 
     #[test]
     fn a_set_holds_its_lower_ends_and_not_its_upper_ends(rt: HostRuntime) -> Result<(), NoMemory> {
         let set = days(rt.alloc(), NEW_YEAR, FIFTH)?;
-        for (number, held) in [
+        let cases = &[
             (NEW_YEAR - 1, false),
             (NEW_YEAR, true),
             (FIFTH - 1, true),
             (FIFTH, false),
-        ] {
-            let day = RefDay::from_number(number).unwrap_or(RefDay::LAST);
-            assert_eq!(rt; set.contains(day), held, "{number}");
+        ];
+        for (number, held) in cases {
+            let day = RefDay::from_number(*number).unwrap_or(RefDay::LAST);
+            assert_eq!(rt; set.contains(day), *held, "{number}");
         }
-        assert!(rt; set.is_disjoint(&set.complement()?));
-        assert!(rt; !set.is_disjoint(&RtSet::all(rt.alloc())?));
-        assert!(rt; set.minus(&set)?.is_empty());
+        Ok(())
+    }
+
+    #[test]
+    fn all_days_are_one_range(rt: HostRuntime) -> Result<(), NoMemory> {
+        let all = RtSet::all(rt.alloc())?;
+        assert!(rt; has_ranges(&all, &[(BEFORE, NEVER)]));
+        assert!(rt; !all.is_disjoint(&days(rt.alloc(), NEW_YEAR, FIFTH)?));
         Ok(())
     }
 }

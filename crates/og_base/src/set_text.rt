@@ -227,7 +227,7 @@ mod tests {
 
     #[test]
     fn each_set_text_is_read_and_written(rt: HostRuntime) -> Result<(), Fail> {
-        for text in [
+        for text in &[
             "{}",
             "{[-infinity,infinity)}",
             "{[2020-01-01,2020-01-05)}",
@@ -244,7 +244,7 @@ mod tests {
 
     #[test]
     fn no_other_text_is_a_set(rt: HostRuntime) {
-        for text in [
+        for text in &[
             "{[-009999-01-01,infinity)}",
             "{[2020-01-01,2020-01-05),[2020-01-05,infinity)}",
             "{[2020-01-05,2020-01-01)}",
@@ -262,35 +262,35 @@ mod tests {
         }
     }
 
+    // The text of the days that the four cuts have in common.
+    fn days_of(alloc: Global, cuts: &[Cut; 4]) -> Result<Vec<u8>, NoMemory> {
+        let set = meet_cuts(alloc, cuts[0], cuts[1], cuts[2], cuts[3])?;
+        let mut out = Vec::new(alloc);
+        write_rt(&set, &mut out)?;
+        Ok(out)
+    }
+
     #[test]
     fn the_days_of_four_cuts_are_one_set(rt: HostRuntime) -> Result<(), Fail> {
         let all = one("-infinity", "infinity");
-        for (cuts, days) in [
-            (
-                [
-                    one("2020-01-26", "infinity"),
-                    all,
-                    one("-infinity", "2020-08-16"),
-                    one("2020-08-15", "infinity"),
-                ],
-                "{[2020-08-15,2020-08-16)}",
-            ),
-            (
-                [
-                    outside("2020-01-01", "2020-02-01"),
-                    one("2019-12-31", "2020-02-02"),
-                    all,
-                    all,
-                ],
-                "{[2019-12-31,2020-01-01),[2020-02-01,2020-02-02)}",
-            ),
-        ] {
-            let [first, second, third, fourth] = cuts;
-            let set = meet_cuts(rt.alloc(), first, second, third, fourth)?;
-            let mut out = Vec::new(rt.alloc());
-            write_rt(&set, &mut out)?;
-            assert_eq!(rt; out.as_slice(), days.as_bytes(), "{days}");
-        }
+        let from = one("2020-01-26", "infinity");
+        let until = one("-infinity", "2020-08-16");
+        let late = one("2020-08-15", "infinity");
+        let days = days_of(rt.alloc(), &[from, all, until, late])?;
+        assert_eq!(rt; days.as_slice(), b"{[2020-08-15,2020-08-16)}".as_slice());
+        Ok(())
+    }
+
+    #[test]
+    fn the_days_of_two_parts_are_two_ranges(rt: HostRuntime) -> Result<(), Fail> {
+        let all = one("-infinity", "infinity");
+        let parts = outside("2020-01-01", "2020-02-01");
+        let round = one("2019-12-31", "2020-02-02");
+        let days = days_of(rt.alloc(), &[parts, round, all, all])?;
+        assert_eq!(rt;
+            days.as_slice(),
+            b"{[2019-12-31,2020-01-01),[2020-02-01,2020-02-02)}".as_slice()
+        );
         Ok(())
     }
 

@@ -101,11 +101,19 @@ pub fn one_text_a_day()
 #[cfg(test)]
 mod tests {
     use super::*;
+    use std::alloc::Global;
     use std::test::Fail;
+
+    // The text of the day, after it was read.
+    fn read_and_written(alloc: Global, text: &str) -> Result<Vec<u8>, Fail> {
+        let mut out = Vec::new(alloc);
+        write_day(read_day(text.as_bytes())?, &mut out)?;
+        Ok(out)
+    }
 
     #[test]
     fn each_day_text_is_read_and_written(rt: HostRuntime) -> Result<(), Fail> {
-        for (text, number) in [
+        let cases = &[
             ("2020-02-29", 18_321),
             ("1970-01-01", 0),
             ("0001-01-01", -719_162),
@@ -114,11 +122,10 @@ mod tests {
             ("9999-12-31", 2_932_896),
             ("-infinity", -4_371_588),
             ("infinity", 2_932_897),
-        ] {
-            let day = read_day(text.as_bytes())?;
-            assert_eq!(rt; day.number(), number, "{text}");
-            let mut out = Vec::new(rt.alloc());
-            write_day(day, &mut out)?;
+        ];
+        for (text, number) in cases {
+            assert_eq!(rt; read_day(text.as_bytes())?.number(), *number, "{text}");
+            let out = read_and_written(rt.alloc(), text)?;
             assert_eq!(rt; out.as_slice(), text.as_bytes(), "{text}");
         }
         Ok(())
@@ -126,7 +133,7 @@ mod tests {
 
     #[test]
     fn no_other_text_is_a_day(rt: HostRuntime) {
-        for text in [
+        for text in &[
             "2019-02-29",
             "-000000-01-01",
             "-000001-02-29",

@@ -68,11 +68,11 @@ mod tests {
             schema: Schema::of(columns),
             rel: Rel::new(rt.alloc()),
         };
-        for (asked, is_known) in [("bugs", true), ("BUGS", true), ("bug", false)] {
+        for (asked, is_known) in &[("bugs", true), ("BUGS", true), ("bug", false)] {
             let asked = Name::of(rt.alloc(), asked.as_bytes())?;
-            assert_eq!(rt; table.what(&asked).is_some(), is_known);
-            assert_eq!(rt; table.schema(&asked).is_some(), is_known);
-            assert_eq!(rt; table.rel(asked.bytes()).is_some(), is_known);
+            assert_eq!(rt; table.what(&asked).is_some(), *is_known);
+            assert_eq!(rt; table.schema(&asked).is_some(), *is_known);
+            assert_eq!(rt; table.rel(asked.bytes()).is_some(), *is_known);
         }
         Ok(())
     }

@@ -89,7 +89,7 @@ const REFUSED: [(&str, &[&str], &[u8]); 2] = [
 
 #[test]
 fn a_sink_that_fails_at_the_line_of_a_fault_has_nothing(rt: HostRuntime) -> Result<(), Fail> {
-    for (name, words, script) in REFUSED {
+    for (name, words, script) in &REFUSED {
         let end = ran(&rt, words, script, 65_536, None, Some(1))?;
         assert_eq!(rt; end.status, 8, "{name}");
         assert_eq!(rt; end.written.len(), 0, "{name}");

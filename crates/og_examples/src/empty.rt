@@ -43,13 +43,13 @@ fn an_operator_on_no_rows_makes_none(rt: HostRuntime) -> Result<(), Fail> {
     let cond = CondDays { cond: &all };
     let items = ItemMap { items: &[] };
     let split = of_none(alloc, &Split { cond, items })?;
-    for (name, count) in [
+    for (name, count) in &[
         ("select", select),
         ("restrict", restrict),
         ("project", project),
         ("split", split),
     ] {
-        assert_eq!(rt; count, 0, "{name}");
+        assert_eq!(rt; *count, 0, "{name}");
     }
     Ok(())
 }
@@ -78,7 +78,7 @@ fn an_operator_on_two_relations_takes_an_empty_one(rt: HostRuntime) -> Result<()
     let not_exists = semi_beside_none(alloc, false)?;
     let equal = keyed_beside_none(alloc, true)?;
     let unequal = keyed_beside_none(alloc, false)?;
-    for (name, counts, left, right) in [
+    for (name, counts, left, right) in &[
         ("product", product, 0, 0),
         ("union", union, 2, 2),
         ("difference", difference, 0, 2),
@@ -88,8 +88,8 @@ fn an_operator_on_two_relations_takes_an_empty_one(rt: HostRuntime) -> Result<()
         ("equal", equal, 0, 0),
         ("unequal", unequal, 0, 2),
     ] {
-        assert_eq!(rt; counts.0, left, "{name}, none on the left");
-        assert_eq!(rt; counts.1, right, "{name}, none on the right");
+        assert_eq!(rt; counts.0, *left, "{name}, none on the left");
+        assert_eq!(rt; counts.1, *right, "{name}, none on the right");
     }
     Ok(())
 }

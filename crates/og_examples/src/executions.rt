@@ -69,8 +69,8 @@ fn assert_printed<H: Threads + Sync + AllocGlobal + Abort>(
     wanted: &str,
 ) -> Result<(), Fail> {
     let script = script_of(rt.alloc(), parts)?;
-    for workers in [1, 2, 64] {
-        let lines = printed(rt, workers, script.as_slice())?;
+    for workers in &[1, 2, 64] {
+        let lines = printed(rt, *workers, script.as_slice())?;
         assert_eq!(rt;
             lines.as_slice(),
             wanted.as_bytes(),
@@ -84,7 +84,7 @@ fn assert_printed<H: Threads + Sync + AllocGlobal + Abort>(
 fn the_worked_queries_have_one_answer_for_all_numbers_of_workers(
     rt: HostRuntime,
 ) -> Result<(), Fail> {
-    let cases: [(&str, &[&str], &str); 6] = [
+    let cases: &[(&str, &[&str], &str)] = &[
         (
             "a kept result",
             &[
@@ -164,7 +164,7 @@ CREATE TABLE nobody (n INT, c TEXT, p PERIOD);
 fn joins_of_every_shape_have_one_answer_for_all_numbers_of_workers(
     rt: HostRuntime,
 ) -> Result<(), Fail> {
-    let cases: [(&str, &[&str], &str); 5] = [
+    let cases: &[(&str, &[&str], &str)] = &[
         (
             "equal in two columns",
             &[

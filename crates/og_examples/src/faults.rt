@@ -177,7 +177,7 @@ const WORDS: [(&str, &[&str]); 7] = [
 #[test]
 fn words_that_are_no_command_read_nothing(rt: HostRuntime) -> Result<(), Fail> {
     let script = b"CREATE TABLE t (p DATE); PRINT t AS OF DATE '2020-05-01';";
-    for (name, words) in WORDS {
+    for (name, words) in &WORDS {
         let end = ran(&rt, words, script, 65_536, None, None)?;
         assert_eq!(rt; end.status, 2, "{name}");
         assert_eq!(rt;

@@ -63,7 +63,7 @@ fn glued_on(alloc: Global, bug: &Row, patch: &Row) -> Result<Vec<u8>, Fail> {
 fn a_pair_is_glued_on_the_days_on_which_the_periods_overlap(rt: HostRuntime) -> Result<(), Fail> {
     let alloc = rt.alloc();
     let patch = filed(alloc, "202", "[2020-08-24,now)")?;
-    for (number, period, wanted) in [
+    for (number, period, wanted) in &[
         (
             "500",
             "[2020-01-25,now)",
@@ -91,7 +91,7 @@ fn now_and_first_of_may(alloc: Global, op: SetOp) -> Result<Rel<Row>, Fail> {
 
 #[test]
 fn set_operations_compare_rows_day_by_day(rt: HostRuntime) -> Result<(), Fail> {
-    for (name, op, first, second) in [
+    for (name, op, first, second) in &[
         ("except", SetOp::Except, "", "2020-05-02\n"),
         ("intersect", SetOp::Intersect, "2020-05-01\n", ""),
         (
@@ -101,8 +101,8 @@ fn set_operations_compare_rows_day_by_day(rt: HostRuntime) -> Result<(), Fail> {
             "2020-05-01\n2020-05-02\n",
         ),
     ] {
-        let made = now_and_first_of_may(rt.alloc(), op)?;
-        let days = [("2020-05-01", first), ("2020-05-02", second)];
+        let made = now_and_first_of_may(rt.alloc(), *op)?;
+        let days = [("2020-05-01", *first), ("2020-05-02", *second)];
         assert_listed(&rt, name, &made, &days)?;
     }
     Ok(())
@@ -147,19 +147,18 @@ fn least(alloc: Global) -> Result<Rel<Row>, Fail> {
 
 #[test]
 fn a_row_is_left_out_or_changed_on_the_days_of_a_condition(rt: HostRuntime) -> Result<(), Fail> {
-    let (deleted, updated) = (deleted(rt.alloc())?, updated(rt.alloc())?);
-    let least = least(rt.alloc())?;
-    for (name, made, day, wanted) in [
-        ("restrict", &deleted, "2020-05-31", ""),
-        ("restrict", &deleted, "2020-06-01", "2020-06-01\n"),
-        ("split", &updated, "2020-05-31", "1,2020-05-31\n"),
-        ("split", &updated, "2020-06-01", "2,2020-06-01\n"),
-        ("project", &least, "2020-02-01", "2020-02-01\n"),
-        ("project", &least, "2020-05-01", "2020-03-01\n"),
-    ] {
-        assert_listed(&rt, name, made, &[(day, wanted)])?;
-    }
-    Ok(())
+    let days = [("2020-05-31", ""), ("2020-06-01", "2020-06-01\n")];
+    assert_listed(&rt, "restrict", &deleted(rt.alloc())?, &days)?;
+    let days = [
+        ("2020-05-31", "1,2020-05-31\n"),
+        ("2020-06-01", "2,2020-06-01\n"),
+    ];
+    assert_listed(&rt, "split", &updated(rt.alloc())?, &days)?;
+    let days = [
+        ("2020-02-01", "2020-02-01\n"),
+        ("2020-05-01", "2020-03-01\n"),
+    ];
+    assert_listed(&rt, "project", &least(rt.alloc())?, &days)
 }
 
 // The items of those pairs of a bug and a patch of which the condition holds.
@@ -193,24 +192,17 @@ fn in_common(alloc: Global) -> Result<Rel<Row>, Fail> {
 
 #[test]
 fn bugs_are_joined_with_the_patches_that_overlap_them(rt: HostRuntime) -> Result<(), Fail> {
-    let (patched, in_common) = (patched(rt.alloc())?, in_common(rt.alloc())?);
-    for (name, made, day, wanted) in [
-        ("pairs", &patched, "2020-08-15", "501,201\n"),
-        ("pairs", &patched, "2020-08-16", "500,201\n501,201\n"),
-        (
-            "pairs",
-            &patched,
-            "2020-08-25",
-            "500,201\n500,202\n501,201\n",
-        ),
-        (
-            "periods",
-            &in_common,
-            "2020-08-16",
-            "500,[2020-08-15,2020-08-16)\n501,[2020-08-15,2020-08-21)\n",
-        ),
-    ] {
-        assert_listed(&rt, name, made, &[(day, wanted)])?;
-    }
-    Ok(())
+    let days = [
+        ("2020-08-15", "501,201\n"),
+        ("2020-08-16", "500,201\n501,201\n"),
+        ("2020-08-25", "500,201\n500,202\n501,201\n"),
+    ];
+    assert_listed(&rt, "pairs", &patched(rt.alloc())?, &days)
+}
+
+#[test]
+fn joined_bugs_and_patches_have_their_periods_in_common(rt: HostRuntime) -> Result<(), Fail> {
+    let periods = "500,[2020-08-15,2020-08-16)\n501,[2020-08-15,2020-08-21)\n";
+    let days = [("2020-08-16", periods)];
+    assert_listed(&rt, "periods", &in_common(rt.alloc())?, &days)
 }

@@ -175,9 +175,9 @@ const SPELLINGS: [(&str, &str); 7] = [
 
 #[test]
 fn the_spelling_and_the_step_of_the_source_change_no_output(rt: HostRuntime) -> Result<(), Fail> {
-    for (name, script) in SPELLINGS {
-        for step in [1, 7, 65_536] {
-            let end = ran(&rt, &["run"], script.as_bytes(), step, None, None)?;
+    for (name, script) in &SPELLINGS {
+        for step in &[1, 7, 65_536] {
+            let end = ran(&rt, &["run"], script.as_bytes(), *step, None, None)?;
             assert_eq!(rt; end.status, 0, "{name}, {step} bytes a call");
             assert_eq!(rt;
                 end.written.as_slice(),

@@ -42,12 +42,10 @@ fn kept_by_glued(alloc: Global, positive: bool) -> Result<Rel<Row>, Fail> {
 fn bugs_are_kept_where_a_patch_overlaps_them_or_where_none_does(
     rt: HostRuntime,
 ) -> Result<(), Fail> {
-    for (positive, first, second) in [(true, "501\n", "500\n501\n"), (false, "500\n", "")] {
-        let days = [("2020-08-15", first), ("2020-08-16", second)];
-        let semi = kept_by_semi(rt.alloc(), positive)?;
-        assert_listed(&rt, "semi", &semi, &days)?;
-        let glued = kept_by_glued(rt.alloc(), positive)?;
-        assert_listed(&rt, "glued", &glued, &days)?;
+    for (positive, first, second) in &[(true, "501\n", "500\n501\n"), (false, "500\n", "")] {
+        let days = [("2020-08-15", *first), ("2020-08-16", *second)];
+        assert_listed(&rt, "semi", &kept_by_semi(rt.alloc(), *positive)?, &days)?;
+        assert_listed(&rt, "glued", &kept_by_glued(rt.alloc(), *positive)?, &days)?;
     }
     Ok(())
 }

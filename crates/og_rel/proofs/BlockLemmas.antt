@@ -1,6 +1,6 @@
 -- Blocks of a list: the chunks that std gives of it.
 use Rattle.std.proofs.Common.{◌≡◌, ◌++◌, List, [], ◌∷◌, length, refl, sym, ap, ◌∙◌, arith}
-use Rattle.std.specs.Iterator.{Yields, DrainsIf}
+use Rattle.std.specs.Iterator.{Yields, Drains}
 use Rattle.std.specs.List.{flat_map}
 use Rattle.std.specs.Slice.Iter.{chunks_rest, chunks_steps}
 use Rattle.std.specs.declared.slice.Chunks.{Chunks}
@@ -17,11 +17,11 @@ module _ {A : Type 0} where
       ∙ ap (λ ys. x.now ++ ys) (flat_map-yields y.0 t xs y.2) ∙ sym y.1.1.0
 
   -- all chunks, one after the other, are the list
-  pub flat_map-chunks : (W : Type 0) (s : Chunks A) (xs blocks : List (Bor (List A))) → W → DrainsIf chunks_steps W s xs → blocks ≡ xs → flat_map (λ b. b.now) blocks ≡ chunks_rest s
-  flat_map-chunks W s xs blocks all drained is =
-      let none = (drained.2 all).1.1.0 in
-      ap (flat_map (λ b. b.now)) is ∙ sym (append-nil (flat_map (λ b. b.now) xs))
-      ∙ ap (λ ys. flat_map (λ b. b.now) xs ++ ys) (sym (nothing (chunks_rest drained.0) none)) ∙ flat_map-yields s drained.0 xs drained.1
+  pub flat_map-chunks : (s : Chunks A) (blocks : List (Bor (List A))) → Drains chunks_steps s blocks → flat_map (λ b. b.now) blocks ≡ chunks_rest s
+  flat_map-chunks s blocks drained =
+      let none = drained.1.2.1.0 in
+      sym (append-nil (flat_map (λ b. b.now) blocks))
+      ∙ ap (λ ys. flat_map (λ b. b.now) blocks ++ ys) (sym (nothing (chunks_rest drained.1.0) none)) ∙ flat_map-yields s drained.1.0 blocks drained.1.1
     where
       nothing : (ys : List A) → length ys ≡ 0 → ys ≡ []
       nothing [] e = refl

@@ -14,7 +14,9 @@ const BLOCK: usize = 1024;
 pub(crate) fn blocks_of<'a, X>(alloc: Global, items: &'a [X]) -> Result<Vec<&'a [X]>, NoMemory>
     ensures { IfOk result (λ v. flat_map (λ b. b.now) v.items ≡ items.now) }
 {
-    let blocks: Vec<&[X]> = items.chunks(BLOCK).collect(alloc)?;
+    // Room for all at once: `collect` asks for less where that is refused, and does not tell.
+    let mut blocks = Vec::with_capacity(alloc, items.len().div_ceil(BLOCK))?;
+    blocks.extend(items.chunks(BLOCK))?;
     Ok(blocks)
 }
 

@@ -76,7 +76,7 @@ fn a_condition_holds_on_the_days_of_its_parts(rt: HostRuntime) -> Result<(), Fai
 
 #[test]
 fn a_point_is_compared_on_all_days_at_once(rt: HostRuntime) -> Result<(), Fail> {
-    for (op, days) in [
+    for (op, days) in &[
         (Cmp::Eq, "{[2020-03-01,2020-03-02)}"),
         (Cmp::Ne, "{[-infinity,2020-03-01),[2020-03-02,infinity)}"),
         (Cmp::Lt, "{[-infinity,2020-03-01)}"),
@@ -84,7 +84,7 @@ fn a_point_is_compared_on_all_days_at_once(rt: HostRuntime) -> Result<(), Fail> 
         (Cmp::Gt, "{[2020-03-02,infinity)}"),
         (Cmp::Ge, "{[2020-03-01,infinity)}"),
     ] {
-        let compared = compared(rt.alloc(), op, "2020-03-01")?;
+        let compared = compared(rt.alloc(), *op, "2020-03-01")?;
         assert!(rt; holds_on(rt.alloc(), &compared, days)?, "{days}");
     }
     Ok(())
@@ -103,7 +103,7 @@ fn items_give_the_row_of_their_values(rt: HostRuntime) -> Result<(), Fail> {
         items: items.as_slice(),
     };
     let image = map.map(alloc, &row(alloc)?)?;
-    for (day, value) in [("2020-02-01", "2020-02-01"), ("2020-05-01", "2020-03-01")] {
+    for (day, value) in &[("2020-02-01", "2020-02-01"), ("2020-05-01", "2020-03-01")] {
         let fixed = image.at(alloc, read_ref_day(day.as_bytes())?)?;
         assert_eq!(rt; fixed.len(), 2, "{day}");
         let value = FixedValue::Date(read_day(value.as_bytes())?);
@@ -135,29 +135,30 @@ fn a_condition_holds_of_a_pair_on_the_days_on_which_it_holds_of_the_glued_row(
     Ok(())
 }
 
-#[test]
-fn a_pair_that_is_apart_on_all_days_is_told_at_once(rt: HostRuntime) -> Result<(), Fail> {
-    let alloc = rt.alloc();
-    let earlier = Cond::Relate {
+// Whether the condition may hold of the row beside itself.
+fn may_hold(alloc: Global, cond: &Cond) -> Result<bool, Fail> {
+    Ok(CondDays { cond }.may_hold(&row(alloc)?, &row(alloc)?))
+}
+
+// The period of the right row overlaps one that ends before it begins.
+fn apart(alloc: Global) -> Result<Cond, Fail> {
+    Ok(Cond::Relate {
         pred: Pred::Overlaps,
         left: Expr::Column(5),
         right: literal(alloc, Kind::Period, "[2019-01-01,2020-01-25)")?,
-    };
+    })
+}
+
+#[test]
+fn a_pair_that_is_apart_on_all_days_is_told_at_once(rt: HostRuntime) -> Result<(), Fail> {
     let differ = Cond::Compare {
         op: Cmp::Ne,
         left: Expr::Column(0),
         right: Expr::Column(3),
     };
-    let number = overlapping(0);
-    let both = overlapping(2);
-    for (cond, may) in [
-        (&earlier, false),
-        (&differ, false),
-        (&number, false),
-        (&both, true),
-    ] {
-        let told = CondDays { cond }.may_hold(&row(alloc)?, &row(alloc)?);
-        assert_eq!(rt; told, may);
-    }
+    assert!(rt; !may_hold(rt.alloc(), &apart(rt.alloc())?)?);
+    assert!(rt; !may_hold(rt.alloc(), &differ)?);
+    assert!(rt; !may_hold(rt.alloc(), &overlapping(0))?);
+    assert!(rt; may_hold(rt.alloc(), &overlapping(2))?);
     Ok(())
 }

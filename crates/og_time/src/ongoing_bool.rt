@@ -85,19 +85,47 @@ impl OngoingBool {
 mod tests {
     use super::*;
     use og_base::ExtDay;
+    use std::process::Abort;
+
+    // Asserts whether it holds on the first and on the last reference day.
+    fn assert_truth<H: Abort>(rt: &H, held: &OngoingBool, first: bool, last: bool) {
+        assert_eq!(rt; held.holds_at(RefDay::FIRST), first);
+        assert_eq!(rt; held.holds_at(RefDay::LAST), last);
+    }
+
+    // The days before the last reference day.
+    fn before_the_last(alloc: Global) -> Result<OngoingBool, NoMemory> {
+        let days = RtSet::below(alloc, ExtDay::of(RefDay::LAST))?;
+        Ok(OngoingBool::of(days))
+    }
 
     #[test]
-    fn truth_on_days_follows_the_words(rt: HostRuntime) -> Result<(), NoMemory> {
+    fn a_constant_is_the_same_on_all_days(rt: HostRuntime) -> Result<(), NoMemory> {
         let always = OngoingBool::constant(rt.alloc(), true)?;
-        let never = always.not()?;
-        let before = OngoingBool::of(RtSet::below(rt.alloc(), ExtDay::of(RefDay::LAST))?);
-        let (both, one) = (before.and(&always)?, before.or(&never)?);
-        for (d, held) in [(RefDay::FIRST, true), (RefDay::LAST, false)] {
-            assert!(rt; always.holds_at(d));
-            assert!(rt; !never.holds_at(d));
-            assert_eq!(rt; both.holds_at(d), held);
-            assert_eq!(rt; one.holds_at(d), held);
-        }
+        assert_truth(&rt, &always, true, true);
+        assert_truth(&rt, &always.not()?, false, false);
+        Ok(())
+    }
+
+    #[test]
+    fn both_hold_where_each_does(rt: HostRuntime) -> Result<(), NoMemory> {
+        let before = before_the_last(rt.alloc())?;
+        let always = OngoingBool::constant(rt.alloc(), true)?;
+        assert_truth(&rt, &before.and(&always)?, true, false);
+        Ok(())
+    }
+
+    #[test]
+    fn one_holds_where_either_does(rt: HostRuntime) -> Result<(), NoMemory> {
+        let before = before_the_last(rt.alloc())?;
+        let never = OngoingBool::constant(rt.alloc(), false)?;
+        assert_truth(&rt, &before.or(&never)?, true, false);
+        Ok(())
+    }
+
+    #[test]
+    fn the_days_are_handed_out(rt: HostRuntime) -> Result<(), NoMemory> {
+        let never = OngoingBool::constant(rt.alloc(), false)?;
         assert!(rt; never.into_days().is_empty());
         Ok(())
     }

@@ -118,14 +118,15 @@ mod tests {
     fn a_period_is_empty_where_its_end_is_at_most_its_start(rt: HostRuntime) -> Result<(), Fail> {
         let period = read_period(b"[2020-01-25,now)")?;
         let empty = RtSet::of_cut(rt.alloc(), &period.empty_days())?;
-        for (day, is_empty) in [
+        let cases = &[
             ("-009999-01-01", true),
             ("2020-01-25", true),
             ("2020-01-26", false),
             ("9999-12-31", false),
-        ] {
+        ];
+        for (day, is_empty) in cases {
             let d = read_ref_day(day.as_bytes())?;
-            assert_eq!(rt; empty.contains(d), is_empty, "{day}");
+            assert_eq!(rt; empty.contains(d), *is_empty, "{day}");
         }
         Ok(())
     }
@@ -135,7 +136,7 @@ mod tests {
         let growing = read_period(b"[2020-01-25,now)")?;
         let fixed = read_period(b"[2020-01-01,2020-02-01)")?;
         let common = growing.common(fixed);
-        for (day, end) in [("2020-01-28", "2020-01-28"), ("2020-03-01", "2020-02-01")] {
+        for (day, end) in &[("2020-01-28", "2020-01-28"), ("2020-03-01", "2020-02-01")] {
             let value = common.at(read_ref_day(day.as_bytes())?);
             assert_eq!(rt; value.start, read_day(b"2020-01-25")?, "{day}");
             assert_eq!(rt; value.end, read_day(end.as_bytes())?, "{day}");

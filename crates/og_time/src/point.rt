@@ -144,12 +144,21 @@ impl OngoingPoint {
 mod tests {
     use super::*;
     use crate::text::read_point;
-    use og_base::{RtSet, read_day, read_ref_day};
+    use og_base::{NoMemory, RtSet, read_day, read_ref_day};
+    use std::alloc::Global;
     use std::test::Fail;
+
+    // The value on the day of the point between the two days, where there is that point.
+    fn value_between(low: &str, high: &str, day: &str) -> Result<Option<ExtDay>, Fail> {
+        let low = read_day(low.as_bytes())?;
+        let high = read_day(high.as_bytes())?;
+        let day = read_ref_day(day.as_bytes())?;
+        Ok(OngoingPoint::new(low, high).map(|point| point.at(day)))
+    }
 
     #[test]
     fn a_point_is_the_day_between_its_ends(rt: HostRuntime) -> Result<(), Fail> {
-        for (low, high, day, value) in [
+        let cases = &[
             ("-infinity", "2020-06-30", "2020-05-01", "2020-05-01"),
             ("-infinity", "2020-06-30", "2020-06-30", "2020-06-30"),
             ("-infinity", "2020-06-30", "2020-07-01", "2020-06-30"),
@@ -158,15 +167,10 @@ mod tests {
             ("-infinity", "infinity", "9999-12-31", "9999-12-31"),
             ("2020-05-01", "infinity", "2020-04-30", "2020-05-01"),
             ("2020-05-01", "2020-05-01", "2020-05-02", "2020-05-01"),
-        ] {
-            let low = read_day(low.as_bytes())?;
-            let high = read_day(high.as_bytes())?;
-            let point = OngoingPoint::new(low, high);
-            assert!(rt; point.is_some(), "{day}");
-            if let Some(point) = point {
-                let day = read_ref_day(day.as_bytes())?;
-                assert_eq!(rt; point.at(day), read_day(value.as_bytes())?, "{value}");
-            }
+        ];
+        for (low, high, day, value) in cases {
+            let wanted = read_day(value.as_bytes())?;
+            assert_eq!(rt; value_between(low, high, day)?, Some(wanted), "{value}");
         }
         Ok(())
     }
@@ -176,50 +180,35 @@ mod tests {
         assert!(rt; OngoingPoint::new(ExtDay::POS, ExtDay::NEG).is_none());
     }
 
+    // Whether the days of the cut have the day.
+    fn has(alloc: Global, cut: &Cut, day: RefDay) -> Result<bool, NoMemory> {
+        Ok(RtSet::of_cut(alloc, cut)?.contains(day))
+    }
+
     #[test]
     fn points_are_compared_day_by_day(rt: HostRuntime) -> Result<(), Fail> {
-        for (left, right, day, less, same) in [
+        const MONTH: &str = "2020-01-01+2020-02-01";
+        const LATER: &str = "2020-01-05+2020-02-05";
+        let cases = &[
             ("now", "2020-03-01", "2020-02-29", true, false),
             ("now", "2020-03-01", "2020-03-01", false, true),
             ("now", "2020-03-01", "2020-03-02", false, false),
-            (
-                "2020-01-01+2020-02-01",
-                "2020-01-05+2020-02-05",
-                "2020-01-04",
-                true,
-                false,
-            ),
-            (
-                "2020-01-01+2020-02-01",
-                "2020-01-05+2020-02-05",
-                "2020-01-05",
-                false,
-                true,
-            ),
-            (
-                "2020-01-01+2020-02-01",
-                "2020-01-05+2020-02-05",
-                "2020-02-01",
-                false,
-                true,
-            ),
-            (
-                "2020-01-01+2020-02-01",
-                "2020-01-05+2020-02-05",
-                "2020-02-02",
-                true,
-                false,
-            ),
-        ] {
+            (MONTH, LATER, "2020-01-04", true, false),
+            (MONTH, LATER, "2020-01-05", false, true),
+            (MONTH, LATER, "2020-02-01", false, true),
+            (MONTH, LATER, "2020-02-02", true, false),
+        ];
+        for (left, right, day, less, same) in cases {
             let left = read_point(left.as_bytes())?;
             let right = read_point(right.as_bytes())?;
             let d = read_ref_day(day.as_bytes())?;
-            let less_days = RtSet::of_cut(rt.alloc(), &left.lt_days(right))?;
-            let same_days = RtSet::of_cut(rt.alloc(), &left.eq_days(right))?;
-            let most_days = RtSet::of_cut(rt.alloc(), &left.le_days(right))?;
-            assert_eq!(rt; less_days.contains(d), less, "{day}");
-            assert_eq!(rt; same_days.contains(d), same, "{day}");
-            assert_eq!(rt; most_days.contains(d), less || same, "{day}");
+            assert_eq!(rt; has(rt.alloc(), &left.lt_days(right), d)?, *less, "{day}");
+            assert_eq!(rt; has(rt.alloc(), &left.eq_days(right), d)?, *same, "{day}");
+            assert_eq!(rt;
+                has(rt.alloc(), &left.le_days(right), d)?,
+                *less || *same,
+                "{day}"
+            );
         }
         Ok(())
     }
@@ -228,10 +217,11 @@ mod tests {
     fn the_least_is_the_earlier_of_two_points_on_each_day(rt: HostRuntime) -> Result<(), Fail> {
         let now = read_point(b"now")?;
         let march = read_point(b"2020-03-01")?;
-        for (day, least, greatest) in [
+        let cases = &[
             ("2020-02-01", "2020-02-01", "2020-03-01"),
             ("2020-05-01", "2020-03-01", "2020-05-01"),
-        ] {
+        ];
+        for (day, least, greatest) in cases {
             let d = read_ref_day(day.as_bytes())?;
             assert_eq!(rt;
                 now.least(march).at(d),
