@@ -106,14 +106,15 @@ fn a_row_that_stands_twice_is_listed_once_and_one_without_days_is_left_out(
     let mut rel = point(rt.alloc(), "now")?;
     rel.append(point(rt.alloc(), "now")?)?;
     rel.push(row(rt.alloc(), &[])?, RtSet::empty(rt.alloc()))?;
-    assert_eq!(rt; rel.len(), 2);
-    let days = [
-        ("2020-05-01", "2020-05-01\n"),
-        ("2020-05-02", "2020-05-02\n"),
-    ];
-    assert_listed(&rt, "rows", &rel, &days)?;
+    let copy = rel.copy()?;
     let mut both = rel.copy()?;
-    both.append(rel)?;
-    assert_eq!(rt; both.len(), 4);
-    assert_listed(&rt, "a copy and the rows", &both, &days)
+    both.append(rel.copy()?)?;
+    for (name, rel, len) in [("rows", &rel, 2), ("copy", &copy, 2), ("both", &both, 4)] {
+        assert_eq!(rt; rel.len(), len, "{name}");
+        for day in ["2020-05-01", "2020-05-02"] {
+            let line = format!(in rt.alloc(); "{day}\n")?;
+            assert_listed(&rt, name, rel, &[(day, line.as_str())])?;
+        }
+    }
+    Ok(())
 }
