@@ -8,6 +8,7 @@ use std::alloc::{AllocError, Global};
 use std::cmp::Ordering;
 use std::marker::Model;
 use std::str;
+use std::sync::ArcStr;
 use thiserror::Error;
 
 /// Why bytes are no text.
@@ -31,18 +32,19 @@ impl From<AllocError> for TextRefusal {
     }
 }
 
-/// A text, seen as its bytes in UTF-8. Texts are ordered by their bytes.
+/// A text, seen as its bytes in UTF-8. Texts are ordered by their bytes. Copies share the bytes.
 #[derive(Debug, Drop)]
 pub struct Text {
-    text: String,
+    text: ArcStr,
 }
 
 impl Model for Text {
-    ghost use Rattle.std.specs.Prelude.{List, ℕ, string_bytes};
+    ghost use Rattle.std.specs.Prelude.{List, ℕ};
+    ghost use Rattle.std.specs.Arc.{arc_str_bytes};
 
     ghost Value = { List ℕ };
 
-    ghost view = { λ t. string_bytes t.text };
+    ghost view = { λ t. arc_str_bytes t.text };
 }
 
 impl Text {
@@ -55,7 +57,7 @@ impl Text {
         let Ok(text) = str::from_utf8(bytes) else {
             return Err(TextRefusal::NotText);
         };
-        let text = String::from_str(alloc, text)?;
+        let text = ArcStr::from_str(alloc, text)?;
         Ok(Text { text })
     }
 
@@ -77,14 +79,14 @@ impl Text {
     pub fn bytes(&self) -> &[u8]
         ensures { result.now ≡ self.now }
     {
-        self.text.as_bytes()
+        self.text.as_str().as_bytes()
     }
 
-    /// The same text once more.
+    /// The same text once more, which shares its bytes. Takes no memory for them.
     pub fn copy(&self) -> Result<Text, NoMemory>
         ensures { IfOk result (λ t. t ≡ self.now) }
     {
-        let text = String::from_str(*self.text.allocator(), self.text.as_str())?;
+        let text = self.text.clone()?;
         Ok(Text { text })
     }
 }
