@@ -150,13 +150,15 @@ new_writer w under none over pending setup fields clean = record { setup = setup
 pub records-first : (row : List (List ℕ)) → records (row ∷ []) ≡ records [] ++ row_text default_writer row
 records-first row = records-push [] row
 
--- a first record and those of a list's elements up to a place, and of one more
-pub records-more : {A : Type 0} (head : List (List ℕ)) (f : A → List (List ℕ)) (xs : List A) (i : ℕ) (other : A) → i < length xs
-    → records (head ∷ map f (take (i + 1) xs)) ≡ records (head ∷ map f (take i xs)) ++ row_text default_writer (f (get_or xs i other))
-records-more head f xs i other within =
-    ap (λ ys. records (head ∷ map f ys)) (take_more xs i other within)
-    ∙ ap (λ rows. records (head ∷ rows)) (map-append f (take i xs) (get_or xs i other ∷ []))
-    ∙ records-push (head ∷ map f (take i xs)) (f (get_or xs i other))
+-- some records and those of a list's elements up to a place, and of one more
+pub records-more : {A : Type 0} (front : List (List (List ℕ))) (f : A → List (List ℕ)) (xs : List A) (i : ℕ) (other : A) → i < length xs
+    → records (front ++ map f (take (i + 1) xs)) ≡ records (front ++ map f (take i xs)) ++ row_text default_writer (f (get_or xs i other))
+records-more front f xs i other within =
+    let row = f (get_or xs i other) in
+    ap (λ ys. records (front ++ map f ys)) (take_more xs i other within)
+    ∙ ap (λ rows. records (front ++ rows)) (map-append f (take i xs) (get_or xs i other ∷ []))
+    ∙ ap records (sym (append_assoc front (map f (take i xs)) (row ∷ [])))
+    ∙ records-push (front ++ map f (take i xs)) row
 
 -- a text that another is apart from is apart from it
 apart_back : (left right : List ℕ) → bytes_eq left right ≡ false → bytes_eq right left ≡ false

@@ -3,7 +3,7 @@ use Rattle.std.proofs.Common.{◌≡◌, ℕ, List, [], true, Option, Ok, Err, r
 use Rattle.std.specs.Io.KnownBytes.{Appends}
 use Rattle.std.proofs.KnownBytes.{Appends-nil}
 use Rattle.std.proofs.lemmas.List.{append-nil}
-use Rattle.og_base.specs.Told.{IsPrefix, AppendsFront}
+use Rattle.og_base.specs.Told.{IsPrefix}
 use Rattle.og_io.specs.declared.sink.PutRefusal.{PutRefusal}
 use Rattle.og_io.specs.declared.sink.PutRefusal.TheVariants as puts
 use Rattle.og_syntax.specs.declared.tree.Stmt.{Stmt}
@@ -17,6 +17,7 @@ use Rattle.og_db.specs.Held.{Held}
 use Rattle.og_db.specs.Runs.{IsWorldOf, known_after}
 use Rattle.og_session.specs.Ends.{StepEnds, piece_or_line, written_at}
 use Rattle.og_session.specs.Output.{piece_of}
+use Rattle.og_session.specs.Puts.{IsPut}
 use Rattle.og_session.specs.Stops.{stop_of_check, stop_of_put}
 use Rattle.og_session.specs.declared.fault.Stop.TheVariants as stops
 
@@ -36,24 +37,19 @@ module _ (n : ℕ) (before : List Typed) (stmt : Stmt) where
       by (checks.TooMany found limit) bad = (checks.TooMany found limit, bad refl, refl, world, refl)
       by checks.NoMemory bad = (world, (written_at n before stmt, refl))
 
-  module _ (typed : Typed) (good : checked (known_after before) stmt ≡ Ok typed) (piece : List ℕ) (is : piece ≡ piece_of before typed) where
-    -- the piece is what is written at the statement
-    written : written_at n before stmt ≡ piece
-    written = ap (piece_or_line n before) good ∙ sym is
+  module _ (typed : Typed) (good : checked (known_after before) stmt ≡ Ok typed) where
+    -- what is written at the statement is its piece
+    written : written_at n before stmt ≡ piece_of before typed
+    written = ap (piece_or_line n before) good
 
-    -- a piece that the sink refused
-    pub put-stopped : (db : List (Held Relation)) (old new : Option (List ℕ)) (refusal : PutRefusal) → IsWorldOf db before → AppendsFront old new piece → (refusal ≡ puts.Failed → ¬ (piece ≡ []))
+    -- a piece that was refused
+    pub put-stopped : (db : List (Held Relation)) (old new : Option (List ℕ)) (refusal : PutRefusal) → IsWorldOf db before → IsPut old new (piece_of before typed) (Err refusal)
         → (text : List ℕ) × Appends old new text × StepEnds n before stmt db text (Err (stop_of_put refusal))
-    put-stopped db old new refusal world (front, prefix, appended) some = (front, appended, by refusal some)
-      where
-        begun : IsPrefix front (written_at n before stmt)
-        begun = subst (IsPrefix front) (sym written) prefix
-
-        by : (r : PutRefusal) → (r ≡ puts.Failed → ¬ (piece ≡ [])) → StepEnds n before stmt db front (Err (stop_of_put r))
-        by puts.Failed some = (world, begun, λ e. some refl (sym written ∙ e))
-        by puts.NoMemory some = (world, begun)
+    put-stopped db old new puts.Failed world ((front, prefix, appended), some) = (front, appended, (world, subst (IsPrefix front) (sym written) prefix, λ e. some (sym written ∙ e)))
+    put-stopped db old new puts.NoMemory world (front, prefix, appended) = (front, appended, (world, subst (IsPrefix front) (sym written) prefix))
 
     -- a statement for which memory ran out after its piece
-    pub execute-stopped : (db new_db : List (Held Relation)) (old new : Option (List ℕ)) → IsWorldOf db before → new_db ≡ db → Appends old new piece
+    pub execute-stopped : (db new_db : List (Held Relation)) (old new : Option (List ℕ)) → IsWorldOf db before → new_db ≡ db → Appends old new (piece_of before typed)
         → (text : List ℕ) × Appends old new text × StepEnds n before stmt new_db text (Err stops.NoMemory)
-    execute-stopped db new_db old new world same appended = (piece, appended, (subst (λ d. IsWorldOf d before) (sym same) world, ([], written ∙ sym (append-nil piece))))
+    execute-stopped db new_db old new world same appended =
+        (piece_of before typed, appended, (subst (λ d. IsWorldOf d before) (sym same) world, ([], written ∙ sym (append-nil (piece_of before typed)))))

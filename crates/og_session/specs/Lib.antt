@@ -2,6 +2,7 @@ pub mod Ends
 pub mod Headline
 pub mod Lines
 pub mod Output
+pub mod Puts
 pub mod Reading
 pub mod Records
 pub mod Runs

@@ -5,6 +5,7 @@ mod carry;
 mod fault;
 mod law;
 mod pieces;
+mod puts;
 mod records;
 mod session;
 mod source;

@@ -1,15 +1,20 @@
 //! What a statement writes.
-ghost use Rattle.std.specs.Prelude.{◌≡◌, List, IfOk};
+ghost use Rattle.std.specs.Prelude.{◌≡◌, ◌≤◌, Err, List, IfOk};
+ghost use Rattle.og_base.specs.Told.{Rose};
+ghost use Rattle.og_io.specs.declared.sink.PutRefusal.{PutRefusal};
 ghost use Rattle.og_query.specs.Fits.{IsFit, IsFitQuery, Schemas, schemas_of};
 ghost use Rattle.og_query.specs.declared.typed.Typed.{Typed};
 ghost use Rattle.og_query.specs.declared.typed.Typed.TheVariants as t;
 ghost use Rattle.og_db.specs.Held.{known_of};
 ghost use Rattle.og_db.specs.Runs.{IsWorldOf};
 ghost use Rattle.og_session.specs.Output.{piece_of};
+ghost use Rattle.og_session.specs.Puts.{IsPut};
 
-use crate::records::{layout, names_text};
+use crate::puts::{put, put_layout};
+use crate::records::names_text;
 use og_base::{NoMemory, RefDay};
 use og_db::Db;
+use og_io::{PutRefusal, Sink};
 use og_par::OpenGate;
 use og_plan::{explain, fitting_queries, plan_of};
 use og_query::{Query, Typed};
@@ -21,66 +26,75 @@ use std::thread::Threads;
 /// How many workers share out the work of one statement.
 pub const WORKERS: usize = 1;
 
-/// What the statement, which fits, writes: a PRINT the rows on its day, TABLES the names, EXPLAIN the
-/// plan, and any other nothing.
-pub fn piece_of<H: Threads + Sync>(
+/// Puts what the statement, which fits, writes: a PRINT the rows on its day, TABLES the names, EXPLAIN
+/// the plan, and any other nothing. Where it is refused, a front of it was put.
+pub fn put_piece<H: Threads + Sync, K: Sink>(
     rt: &H,
     alloc: Global,
     stmt: &Typed,
     db: &Db,
-) -> Result<Vec<u8>, NoMemory>
+    out: &mut K,
+) -> Result<(), PutRefusal>
     requires { IsFit (known_of db.now) stmt.now }
-    ensures { IfOk result (λ text. (before : List Typed) → IsWorldOf db.now before → text.items ≡ piece_of before stmt.now) }
+    ensures put { (before : List Typed) → IsWorldOf db.now before → IsPut (K.written out.old) (K.written out.new) (piece_of before stmt.now) result }
+    ensures later { K.faults out.old ≤ K.faults out.new }
+    ensures failed { result ≡ Err PutRefusal.Failed → Rose (K.faults out.old) (K.faults out.new) }
 {
     match stmt {
-        Typed::PrintName { name, day } => named_piece(rt, alloc, name, *day, db),
-        Typed::PrintQuery { query, day } => query_piece(rt, alloc, query, *day, db),
-        Typed::Tables => tables_piece(alloc, db),
-        Typed::Explain { query } => plan_piece(alloc, query),
-        _ => Ok(Vec::new(alloc)),
+        Typed::PrintName { name, day } => put_name(rt, alloc, name, *day, db, out),
+        Typed::PrintQuery { query, day } => put_query(rt, alloc, query, *day, db, out),
+        Typed::Tables => put(tables_piece(alloc, db)?.as_slice(), out),
+        Typed::Explain { query } => put(plan_piece(alloc, query)?.as_slice(), out),
+        _ => Ok(()),
     }
 }
 
-// The rows of a name on a day.
-fn named_piece<H: Threads + Sync>(
+// Puts the rows of a name on a day.
+fn put_name<H: Threads + Sync, K: Sink>(
     rt: &H,
     alloc: Global,
     name: &Name,
     day: RefDay,
     db: &Db,
-) -> Result<Vec<u8>, NoMemory>
-    ensures { IfOk result (λ text. (before : List Typed) → IsWorldOf db.now before → text.items ≡ piece_of before (t.PrintName name.now day)) }
+    out: &mut K,
+) -> Result<(), PutRefusal>
+    ensures put { (before : List Typed) → IsWorldOf db.now before → IsPut (K.written out.old) (K.written out.new) (piece_of before (t.PrintName name.now day)) result }
+    ensures later { K.faults out.old ≤ K.faults out.new }
+    ensures failed { result ≡ Err PutRefusal.Failed → Rose (K.faults out.old) (K.faults out.new) }
 {
     order_of_rows();
     // For its clause: the day is a reference day.
     day.number();
     let Some(schema) = db.schema(name) else {
-        return Ok(Vec::new(alloc));
+        return Ok(());
     };
     let Some(rel) = db.rel(name.bytes()) else {
-        return Ok(Vec::new(alloc));
+        return Ok(());
     };
     let rows = rel.at_workers(rt, WORKERS, day, &OpenGate)?;
-    layout(alloc, schema, rows.as_slice())
+    put_layout(alloc, schema, rows.as_slice(), out)
 }
 
-// The rows of a query on a day.
-fn query_piece<H: Threads + Sync>(
+// Puts the rows of a query on a day.
+fn put_query<H: Threads + Sync, K: Sink>(
     rt: &H,
     alloc: Global,
     query: &Query,
     day: RefDay,
     db: &Db,
-) -> Result<Vec<u8>, NoMemory>
+    out: &mut K,
+) -> Result<(), PutRefusal>
     requires { IsFitQuery (schemas_of (known_of db.now)) query.now }
-    ensures { IfOk result (λ text. (before : List Typed) → IsWorldOf db.now before → text.items ≡ piece_of before (t.PrintQuery query.now day)) }
+    ensures put { (before : List Typed) → IsWorldOf db.now before → IsPut (K.written out.old) (K.written out.new) (piece_of before (t.PrintQuery query.now day)) result }
+    ensures later { K.faults out.old ≤ K.faults out.new }
+    ensures failed { result ≡ Err PutRefusal.Failed → Rose (K.faults out.old) (K.faults out.new) }
 {
     order_of_rows();
     // For its clause: the day is a reference day.
     day.number();
     let rel = db.answer(rt, alloc, query, WORKERS, &OpenGate)?;
     let rows = rel.at_workers(rt, WORKERS, day, &OpenGate)?;
-    layout(alloc, &query.first.schema, rows.as_slice())
+    put_layout(alloc, &query.first.schema, rows.as_slice(), out)
 }
 
 // The names.

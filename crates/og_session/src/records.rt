@@ -2,7 +2,7 @@
 ghost use Rattle.std.specs.Prelude.{◌≡◌, ◌++◌, ◌∷◌, [], ℕ, List, IfOk, OnOk, map};
 ghost use Rattle.csv.specs.Writing.{default_writer, row_text};
 ghost use Rattle.og_value.specs.Cells.{fixed_text};
-ghost use Rattle.og_session.specs.Output.{layout, names_text, what_word};
+ghost use Rattle.og_session.specs.Output.{names_text, records, what_word};
 ghost use Rattle.og_session.specs.Records.{HasText, HasFields};
 
 use csv::{Error, Writer, WriterBuilder};
@@ -11,12 +11,21 @@ use og_db::Db;
 use og_value::{Catalog, FixedRow, FixedValue, Name, Schema, What, write_fixed};
 use std::alloc::Global;
 
-/// The rows as a PRINT writes them: a record of the columns' names, then one of the texts of each
-/// row's values.
-pub fn layout(alloc: Global, schema: &Schema, rows: &[FixedRow]) -> Result<Vec<u8>, NoMemory>
-    ensures { IfOk result (λ v. v.items ≡ layout schema.now rows.now) }
+/// The record of the columns' names, with which a PRINT begins.
+pub fn header_text(alloc: Global, schema: &Schema) -> Result<Vec<u8>, NoMemory>
+    ensures { IfOk result (λ v. v.items ≡ records (map (λ column. column.name) schema.now ∷ [])) }
 {
-    match row_records(alloc, schema, rows) {
+    match header_record(alloc, schema) {
+        Ok(text) => Ok(text),
+        Err(_) => Err(NoMemory),
+    }
+}
+
+/// The records of the texts of each row's values, as a PRINT writes them.
+pub fn rows_text(alloc: Global, rows: &[FixedRow]) -> Result<Vec<u8>, NoMemory>
+    ensures { IfOk result (λ v. v.items ≡ records (map (map fixed_text) rows.now)) }
+{
+    match row_records(alloc, rows) {
         Ok(text) => Ok(text),
         Err(_) => Err(NoMemory),
     }
@@ -32,12 +41,20 @@ pub fn names_text(alloc: Global, db: &Db) -> Result<Vec<u8>, NoMemory>
     }
 }
 
-// The records of the rows, or the error of the writer, which is want of memory.
-fn row_records(alloc: Global, schema: &Schema, rows: &[FixedRow]) -> Result<Vec<u8>, Error>
-    ensures { IfOk result (λ v. v.items ≡ layout schema.now rows.now) }
+// The record of the columns' names, or the error of the writer, which is want of memory.
+fn header_record(alloc: Global, schema: &Schema) -> Result<Vec<u8>, Error>
+    ensures { IfOk result (λ v. v.items ≡ records (map (λ column. column.name) schema.now ∷ [])) }
 {
     let mut writer = WriterBuilder::new().from_writer(Vec::new(alloc));
     write_header(&mut writer, schema)?;
+    text_of(writer)
+}
+
+// The records of the rows, or the error of the writer, which is want of memory.
+fn row_records(alloc: Global, rows: &[FixedRow]) -> Result<Vec<u8>, Error>
+    ensures { IfOk result (λ v. v.items ≡ records (map (map fixed_text) rows.now)) }
+{
+    let mut writer = WriterBuilder::new().from_writer(Vec::new(alloc));
     let mut cell = Vec::new(alloc);
     'rows: for row in rows {
         write_row(&mut writer, row, &mut cell)?;

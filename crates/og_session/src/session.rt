@@ -12,7 +12,7 @@ ghost use Rattle.og_session.specs.declared.fault.Stop.{Stop};
 use crate::carry::carry_out;
 use crate::fault::{Fault, Stop, fault_of, status_of};
 use crate::law::one_defined_run;
-use crate::step::put;
+use crate::puts::put;
 use og_base::Words;
 use og_db::Db;
 use og_io::{PutRefusal, Sink, Source};

@@ -1,18 +1,17 @@
 //! One statement of a run.
-ghost use Rattle.std.specs.Prelude.{◌≡◌, ◌≤◌, [], ℕ, List, Err, OnOk, OnErr};
+ghost use Rattle.std.specs.Prelude.{◌≡◌, ◌≤◌, ℕ, List, Err};
 ghost use Rattle.std.specs.Io.KnownBytes.{Appends};
-ghost use Rattle.og_base.specs.Told.{Rose, AppendsFront};
-ghost use Rattle.og_io.specs.declared.sink.PutRefusal.{PutRefusal};
+ghost use Rattle.og_base.specs.Told.{Rose};
 ghost use Rattle.og_query.specs.declared.typed.Typed.{Typed};
 ghost use Rattle.og_db.specs.Runs.{IsWorldOf};
 ghost use Rattle.og_session.specs.Ends.{StepEnds};
 ghost use Rattle.og_session.specs.declared.fault.Stop.{Stop};
 
 use crate::fault::Stop;
-use crate::pieces::{WORKERS, piece_of};
+use crate::pieces::{WORKERS, put_piece};
 use og_check::{check, checked_fits};
 use og_db::{Db, known_names};
-use og_io::{PutRefusal, Sink};
+use og_io::Sink;
 use og_par::OpenGate;
 use og_syntax::Stmt;
 use std::alloc::Global;
@@ -39,22 +38,7 @@ pub fn step<H: Threads + Sync, K: Sink>(
         Ok(typed) => typed,
         Err(refusal) => return Err(Stop::of_check(number, refusal)),
     };
-    let piece = piece_of(rt, alloc, &typed, db)?;
-    put(piece.as_slice(), out)?;
+    put_piece(rt, alloc, &typed, db, out)?;
     db.execute(rt, alloc, &typed, WORKERS, &OpenGate)?;
     Ok(())
-}
-
-/// Writes the piece, where it is not empty.
-pub fn put<K: Sink>(piece: &[u8], out: &mut K) -> Result<(), PutRefusal>
-    ensures written { OnOk result (Appends (K.written out.old) (K.written out.new) piece.now) }
-    ensures refused { OnErr result (AppendsFront (K.written out.old) (K.written out.new) piece.now) }
-    ensures later { K.faults out.old ≤ K.faults out.new }
-    ensures failed { result ≡ Err PutRefusal.Failed → Rose (K.faults out.old) (K.faults out.new) }
-    ensures some { result ≡ Err PutRefusal.Failed → piece.now ≡ [] → ⊥ }
-{
-    if piece.is_empty() {
-        return Ok(());
-    }
-    out.put(piece)
 }

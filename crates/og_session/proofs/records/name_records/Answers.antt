@@ -35,7 +35,7 @@ names-preserved c =
     let what : c.in-Some.what ≡ held.what = cc (c.in-Some.is, c.what.ensures, known) in
     let before = names_text (take c.names.i c.args.db.now) in
     let next = c.in_ok-write_name.ensures before c.names.invariant in
-    let more = records-more head (λ h. h.name ∷ what_word h.what ∷ []) c.args.db.now c.names.i any within in
+    let more = records-more (head ∷ []) (λ h. h.name ∷ what_word h.what ∷ []) c.args.db.now c.names.i any within in
     subst (HasText c.write_name.new.writer) (ap₂ (λ n w. before ++ row_text default_writer (n ∷ what_word w ∷ [])) name what ∙ sym more) next
 
 pub unreachable-requires : goal.unreachable-requires

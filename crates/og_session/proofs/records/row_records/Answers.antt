@@ -3,25 +3,24 @@ use Rattle.std.proofs.lemmas.List.{take_all}
 use Rattle.std.proofs.lemmas.Result.{IfOk-weaker}
 use Rattle.csv.specs.Writing.{default_writer, row_text}
 use Rattle.og_value.specs.Cells.{fixed_text}
-use Rattle.og_session.specs.Output.{layout, records}
+use Rattle.og_session.specs.Output.{records}
 use Rattle.og_session.specs.Records.{HasText}
-use Rattle.og_session.proofs.RecordLemmas.{new_writer, records-first, records-more}
+use Rattle.og_session.proofs.RecordLemmas.{new_writer, records-more}
 use Rattle.og_session.proofs.records.row_records.Goals as goal
 
 pub rows-init : goal.rows-init
 rows-init c =
     let from = c.from_writer-writer.ensures in
-    let start = new_writer c.from_writer-writer.result c.new-2.result c.new-2.ensures.items from.wtr from.empty (from.cfg ∙ c.new.ensures) from.fields from.wrote in
-    subst (HasText c.write_header.new.writer) (sym (records-first (map (λ column. column.name) c.args.schema.now))) (c.in_ok-write_header.ensures (records []) start)
+    new_writer c.from_writer-writer.result c.new-2.result c.new-2.ensures.items from.wtr from.empty (from.cfg ∙ c.new.ensures) from.fields from.wrote
 
 pub rows-preserved : goal.rows-preserved
 rows-preserved c =
-    let before = layout c.args.schema.now (take c.rows.row-index c.args.rows.now) in
+    let before = records (map (map fixed_text) (take c.rows.row-index c.args.rows.now)) in
     let next = c.in_ok-write_row.ensures before c.rows.invariant in
-    let more = records-more (map (λ column. column.name) c.args.schema.now) (map fixed_text) c.args.rows.now c.rows.row-index c.row-item.result c.rows-test.true in
+    let more = records-more [] (map fixed_text) c.args.rows.now c.rows.row-index c.row-item.result c.rows-test.true in
     subst (HasText c.write_row.new.writer) (ap (λ row. before ++ row_text default_writer (map fixed_text row)) c.row-item.is ∙ sym more) next
 
 pub returns : goal.returns
 returns c =
     let all = take_all c.rows.row-index c.args.rows.now c.rows-test.false in
-    IfOk-weaker c.text_of.result _ _ (λ v e. e (layout c.args.schema.now c.args.rows.now) (rw all at c.rows.invariant)) c.text_of.ensures
+    IfOk-weaker c.text_of.result _ _ (λ v e. e (records (map (map fixed_text) c.args.rows.now)) (rw all at c.rows.invariant)) c.text_of.ensures
