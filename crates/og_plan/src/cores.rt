@@ -70,11 +70,10 @@ fn leaf_of(
     ensures { IfOk result (λ p. p ≡ spec.leaf_of widths.now parts.now k start table.now) }
 {
     let here = parts_at(alloc, widths, Home::Leaf(k), parts)?;
-    let scan = Plan::Scan {
-        name: table.name.copy()?,
-        schema: table.schema.copy()?,
-    };
-    filtered(alloc, scan, all_from(alloc, start, &here)?)
+    let below = all_from(alloc, start, &here)?;
+    let name = table.name.copy()?;
+    let schema = table.schema.copy()?;
+    filtered(alloc, Plan::Scan { name, schema }, below)
 }
 
 // The tree of the items before item k, joined with leaf k.
@@ -90,9 +89,10 @@ fn joined_with(
 ) -> Result<Plan, NoMemory>
     ensures { IfOk result (λ p. p ≡ joins.joined_by kinds.now start tree (spec.leaf_of widths.now parts.now k start table.now) (homes.parts_at widths.now (home.Join k) parts.now)) }
 {
-    let leaf = leaf_of(alloc, widths, parts, k, start, table)?;
+    let left = Boxed::new(alloc, tree)?;
+    let right = Boxed::new(alloc, leaf_of(alloc, widths, parts, k, start, table)?)?;
     let here = parts_at(alloc, widths, Home::Join(k), parts)?;
-    joined_by(alloc, kinds, start, tree, leaf, here)
+    joined_by(alloc, kinds, start, left, right, here)
 }
 
 // The tree of all items, of which there is at least one.
@@ -175,11 +175,12 @@ pub fn plan_of(alloc: Global, query: &Query) -> Result<Plan, NoMemory>
 {
     let mut plan = core_plan(alloc, &query.first)?;
     'rests: for rest in query.rest.as_slice() {
-        let right = core_plan(alloc, &rest.core)?;
+        let left = Boxed::new(alloc, plan)?;
+        let right = Boxed::new(alloc, core_plan(alloc, &rest.core)?)?;
         plan = Plan::Combine {
             op: rest.op,
-            left: Boxed::new(alloc, plan)?,
-            right: Boxed::new(alloc, right)?,
+            left,
+            right,
         };
     }
     Ok(plan)

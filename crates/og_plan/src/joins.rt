@@ -3,7 +3,6 @@ ghost use Rattle.std.specs.Prelude.{◌≡◌, IfOk, filter, not};
 ghost use Rattle.std.specs.List.{flat_map};
 ghost use Rattle.std.specs.Option.{is_some};
 ghost use Rattle.og_plan.specs.Joins as spec;
-ghost use Rattle.og_plan.specs.declared.plan.Plan.TheVariants as plans;
 
 use crate::places::column_of;
 use crate::plan::{ColPair, Plan};
@@ -158,15 +157,13 @@ pub(crate) fn filtered(alloc: Global, input: Plan, parts: Items<Cond>) -> Result
 // filtered product.
 fn overlap_joined(
     alloc: Global,
-    left: Plan,
-    right: Plan,
+    left: Boxed<Plan>,
+    right: Boxed<Plan>,
     pairs: &Items<ColPair>,
     parts: Items<Cond>,
 ) -> Result<Plan, NoMemory>
     ensures { IfOk result (λ p. p ≡ spec.overlap_joined left right pairs.now parts) }
 {
-    let left = Boxed::new(alloc, left)?;
-    let right = Boxed::new(alloc, right)?;
     match pairs.as_slice() {
         [] => filtered(alloc, Plan::Product { left, right }, parts),
         [pair, ..] => Ok(Plan::OverlapJoin {
@@ -178,53 +175,27 @@ fn overlap_joined(
     }
 }
 
-// The join that has no keys: on its first overlapping periods, else a filtered product.
-fn unkeyed(
-    alloc: Global,
-    start: usize,
-    left: Plan,
-    right: Plan,
-    parts: Items<Cond>,
-) -> Result<Plan, NoMemory>
-    ensures { IfOk result (λ p. p ≡ spec.overlap_joined left right (flat_map (λ part. spec.listed (spec.overlap_of start part)) parts) parts) }
-{
-    let pairs = overlaps_of(alloc, start, &parts)?;
-    overlap_joined(alloc, left, right, &pairs, parts)
-}
-
-// A join on the keys, of which there are some, with the other parts as its rest.
-fn keyed(
-    alloc: Global,
-    left: Plan,
-    right: Plan,
-    pairs: Items<ColPair>,
-    rest: Items<Cond>,
-) -> Result<Plan, NoMemory>
-    ensures { IfOk result (λ p. p ≡ plans.KeyJoin left right pairs rest) }
-{
-    Ok(Plan::KeyJoin {
-        left: Boxed::new(alloc, left)?,
-        right: Boxed::new(alloc, right)?,
-        pairs,
-        rest,
-    })
-}
-
 // The join: on its keys, else on its first overlapping periods, else a filtered product.
 pub(crate) fn joined_by(
     alloc: Global,
     kinds: &[Kind],
     start: usize,
-    left: Plan,
-    right: Plan,
+    left: Boxed<Plan>,
+    right: Boxed<Plan>,
     parts: Items<Cond>,
 ) -> Result<Plan, NoMemory>
     ensures { IfOk result (λ p. p ≡ spec.joined_by kinds.now start left right parts) }
 {
     let pairs = keys_of(alloc, kinds, start, &parts)?;
     if pairs.is_empty() {
-        return unkeyed(alloc, start, left, right, parts);
+        let overlaps = overlaps_of(alloc, start, &parts)?;
+        return overlap_joined(alloc, left, right, &overlaps, parts);
     }
     let rest = without_keys(alloc, kinds, start, &parts)?;
-    keyed(alloc, left, right, pairs, rest)
+    Ok(Plan::KeyJoin {
+        left,
+        right,
+        pairs,
+        rest,
+    })
 }
