@@ -2,7 +2,7 @@
 ghost use Rattle.og_syntax.specs.Reading.{Gives};
 ghost use Rattle.og_parse.specs.StatementReader as spec;
 
-use crate::endings::{as_of, day_by};
+use crate::endings::as_of;
 use og_syntax::{Lexeme, Refusal, Sort, Stmt, expect, name, query, same_sort, sort_at};
 use std::alloc::Global;
 
@@ -79,7 +79,7 @@ fn print<'a>(
 }
 
 // A name with its day, after PRINT.
-#[tactic(auto, unfolding(crate::specs::StatementReader::name_as_of, crate::specs::StatementReader::as_of))]
+#[tactic(auto, unfolding(crate::specs::StatementReader::name_as_of))]
 fn name_as_of<'a>(
     alloc: Global,
     script: &[u8],
@@ -89,15 +89,14 @@ fn name_as_of<'a>(
     ensures { Gives result (spec.name_as_of script.now strict lexemes.now) }
 {
     let (name, rest) = name(alloc, script, lexemes)?;
-    let (text, rest) = as_of(alloc, script, rest)?;
-    let Some(day) = day_by(strict, text.as_slice()) else {
-        return Err(Refusal::Syntax);
-    };
-    Ok((Stmt::PrintName { name, day }, rest))
+    match as_of(alloc, script, strict, rest) {
+        Ok((day, rest)) => Ok((Stmt::PrintName { name, day }, rest)),
+        Err(refusal) => Err(refusal),
+    }
 }
 
 // A query with its day, after PRINT.
-#[tactic(auto, unfolding(crate::specs::StatementReader::query_as_of, crate::specs::StatementReader::as_of))]
+#[tactic(auto, unfolding(crate::specs::StatementReader::query_as_of))]
 fn query_as_of<'a>(
     alloc: Global,
     script: &[u8],
@@ -107,11 +106,10 @@ fn query_as_of<'a>(
     ensures { Gives result (spec.query_as_of script.now strict lexemes.now) }
 {
     let (query, rest) = query(alloc, script, strict, false, lexemes)?;
-    let (text, rest) = as_of(alloc, script, rest)?;
-    let Some(day) = day_by(strict, text.as_slice()) else {
-        return Err(Refusal::Syntax);
-    };
-    Ok((Stmt::PrintQuery { query, day }, rest))
+    match as_of(alloc, script, strict, rest) {
+        Ok((day, rest)) => Ok((Stmt::PrintQuery { query, day }, rest)),
+        Err(refusal) => Err(refusal),
+    }
 }
 
 // EXPLAIN.
@@ -130,7 +128,7 @@ fn explain<'a>(
 }
 
 // VALID.
-#[tactic(auto, unfolding(crate::specs::StatementReader::valid, crate::specs::StatementReader::as_of))]
+#[tactic(auto, unfolding(crate::specs::StatementReader::valid))]
 fn valid<'a>(
     alloc: Global,
     script: &[u8],
@@ -141,11 +139,10 @@ fn valid<'a>(
 {
     let rest = expect(lexemes, Sort::Valid)?;
     let (name, rest) = name(alloc, script, rest)?;
-    let (text, rest) = as_of(alloc, script, rest)?;
-    let Some(day) = day_by(strict, text.as_slice()) else {
-        return Err(Refusal::Syntax);
-    };
-    Ok((Stmt::Valid { name, day }, rest))
+    match as_of(alloc, script, strict, rest) {
+        Ok((day, rest)) => Ok((Stmt::Valid { name, day }, rest)),
+        Err(refusal) => Err(refusal),
+    }
 }
 
 // LIVE.

@@ -26,9 +26,26 @@ pub fn where_cond<'a>(
     Ok((None, lexemes))
 }
 
+// The day after AS OF. Where it is not strict, the day with the number 0 stands for each text.
+#[tactic(auto, unfolding(crate::specs::StatementReader::as_of))]
+pub fn as_of<'a>(
+    alloc: Global,
+    script: &[u8],
+    strict: bool,
+    lexemes: &'a [Lexeme],
+) -> Result<(RefDay, &'a [Lexeme]), Refusal>
+    ensures { Gives result (spec.as_of script.now strict lexemes.now) }
+{
+    let (text, rest) = as_of_text(alloc, script, lexemes)?;
+    let Some(day) = day_by(strict, text.as_slice()) else {
+        return Err(Refusal::Syntax);
+    };
+    Ok((day, rest))
+}
+
 // The text of the day after AS OF.
 #[tactic(auto, unfolding(crate::specs::StatementReader::as_of_text))]
-pub fn as_of<'a>(
+fn as_of_text<'a>(
     alloc: Global,
     script: &[u8],
     lexemes: &'a [Lexeme],
@@ -41,8 +58,8 @@ pub fn as_of<'a>(
     quoted(alloc, script, rest)
 }
 
-// The day of that text. Where it is not strict, the day with the number 0 stands for each text.
-pub fn day_by(strict: bool, text: &[u8]) -> Option<RefDay>
+// The day of that text, or the day with the number 0 where it is not strict.
+fn day_by(strict: bool, text: &[u8]) -> Option<RefDay>
     ensures { result ≡ spec.day_by strict (spec.ref_day_of text.now) }
 {
     if strict {
@@ -51,6 +68,7 @@ pub fn day_by(strict: bool, text: &[u8]) -> Option<RefDay>
         Some(day_0())
     }
 }
+
 // The reference day of a day text.
 fn ref_day_of(text: &[u8]) -> Option<RefDay>
     ensures { result ≡ spec.ref_day_of text.now }
