@@ -1,5 +1,5 @@
 -- What was put into a sink piece after piece, and how much of the whole it is where one of them is refused.
-use Rattle.std.proofs.Common.{◌≡◌, ◌++◌, ◌∷◌, ◌∙◌, ℕ, List, [], Option, Result, Ok, Err, map, take, drop, refl, sym, ap, ap₂, subst, append_assoc, append-nil}
+use Rattle.std.proofs.Common.{◌≡◌, ◌++◌, ◌∷◌, ◌∙◌, ℕ, List, [], Option, Result, Ok, Err, map, take, drop, refl, sym, ap, ap₂, subst, append_assoc}
 use Rattle.std.specs.Io.KnownBytes.{Appends}
 use Rattle.std.proofs.KnownBytes.{Appends-nil, Appends-trans}
 use Rattle.std.proofs.lemmas.List.{take-append-drop, map-append}
@@ -42,10 +42,6 @@ front_none (x ∷ xs) ys e = cc e
 back_none : (xs ys : List ℕ) → xs ++ ys ≡ [] → ys ≡ []
 back_none [] ys e = e
 back_none (x ∷ xs) ys e = cc e
-
--- nothing was put
-pub not_put : (old : Option (List ℕ)) (piece : List ℕ) → IsPut old old piece (Err puts.NoMemory)
-not_put old piece = ([], (piece, refl), Appends-nil old)
 
 -- a front after what was put before it
 front_after : (old mid new : Option (List ℕ)) (before piece whole : List ℕ) → whole ≡ before ++ piece → Appends old mid before → AppendsFront mid new piece → AppendsFront old new whole
@@ -95,7 +91,3 @@ module _ (old mid new : Option (List ℕ)) (all rest block later : List Fixed) (
   block_refused refusal put =
       put_after old mid new (rows_text up.before) (rows_text rest) (rows_text all) (Err refusal) (ap rows_text up.whole ∙ rows_text-append up.before rest) up.written
       (put_within mid new (rows_text block) (rows_text later) (rows_text rest) refusal (ap rows_text parts ∙ rows_text-append block later) put)
-
--- all were put where nothing is left
-pub all_put : (old now : Option (List ℕ)) (all rest : List Fixed) → rest ≡ [] → ArePutUpTo old now all rest → Appends old now (rows_text all)
-all_put old now all rest none up = subst (λ rows. Appends old now (rows_text rows)) (sym (up.whole ∙ ap (λ xs. up.before ++ xs) none ∙ append-nil up.before)) up.written
