@@ -94,11 +94,9 @@ fn delete<C: Catalog>(
     ensures { Gives result (spec.delete (C.known known.now) name.now cond.now) }
 {
     let items = [Item::of(name, known_columns(known, Names::Tables, name)?)];
+    let name = name.copy()?;
     let cond = where_of(alloc, &Sight::of(&items), cond)?;
-    Ok(Typed::Delete {
-        name: name.copy()?,
-        cond,
-    })
+    Ok(Typed::Delete { name, cond })
 }
 
 // UPDATE: a table, assignments to its columns, and a condition on them.
@@ -113,13 +111,10 @@ fn update<C: Catalog>(
 {
     let items = [Item::of(name, known_columns(known, Names::Tables, name)?)];
     let sight = Sight::of(&items);
+    let name = name.copy()?;
     let sets = sets_of(alloc, &sight, sets)?;
     let cond = where_of(alloc, &sight, cond)?;
-    Ok(Typed::Update {
-        name: name.copy()?,
-        sets,
-        cond,
-    })
+    Ok(Typed::Update { name, sets, cond })
 }
 
 // DROP: a name.
@@ -140,11 +135,9 @@ fn keep<C: Catalog>(
     ensures { Gives result (spec.keep (C.known known.now) name.now query.now) }
 {
     new_name(known, name)?;
+    let name = name.copy()?;
     let query = query_of(alloc, known, Names::All, query)?;
-    Ok(Typed::Keep {
-        name: name.copy()?,
-        query,
-    })
+    Ok(Typed::Keep { name, query })
 }
 
 // PRINT of a name.
@@ -233,9 +226,7 @@ fn live<C: Catalog>(
     ensures { Gives result (spec.live (C.known known.now) name.now query.now) }
 {
     new_name(known, name)?;
+    let name = name.copy()?;
     let query = query_of(alloc, known, Names::Tables, query)?;
-    Ok(Typed::Live {
-        name: name.copy()?,
-        query,
-    })
+    Ok(Typed::Live { name, query })
 }

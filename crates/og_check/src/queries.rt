@@ -3,6 +3,7 @@ ghost use Rattle.std.specs.Prelude.{◌≡◌, map, IfOk};
 ghost use Rattle.og_query.specs.Kinds.{kinds_of};
 ghost use Rattle.og_check.specs.Cores as spec;
 ghost use Rattle.og_check.specs.Names.{schemas_in};
+ghost use Rattle.og_check.specs.Steps as steps;
 ghost use Rattle.og_check.specs.Steps.{Gives, in_order};
 
 use crate::cores::core_of;
@@ -58,10 +59,17 @@ fn rest_of<C: Catalog>(
     ensures { Gives result (spec.rest_of (schemas_in names (C.known known.now)) first.now rest.now) }
 {
     let core = core_of(alloc, known, names, &rest.core)?;
-    let found = kinds_of(alloc, &core.schema)?;
-    let wanted = kinds_of(alloc, &first.schema)?;
-    agree(found.as_slice(), wanted.as_slice())?;
+    columns_agree(alloc, &core.schema, &first.schema)?;
     Ok(Rest { op: rest.op, core })
+}
+
+// The first fault of the kinds of the columns that were found, where others are wanted.
+fn columns_agree(alloc: Global, found: &Schema, wanted: &Schema) -> Result<(), CheckRefusal>
+    ensures { Gives result (steps.agree (kinds_of found.now) (kinds_of wanted.now)) }
+{
+    let found = kinds_of(alloc, found)?;
+    let wanted = kinds_of(alloc, wanted)?;
+    agree(found.as_slice(), wanted.as_slice())
 }
 
 /// The kinds of the columns.

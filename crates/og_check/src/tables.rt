@@ -1,5 +1,5 @@
 //! The checks of FROM, and of EXISTS and NOT EXISTS.
-ghost use Rattle.std.specs.Prelude.{◌≡◌, map};
+ghost use Rattle.std.specs.Prelude.{◌≡◌, map, IfOk};
 ghost use Rattle.std.specs.List.{list_any};
 ghost use Rattle.std.specs.Str.{bytes_eq};
 ghost use Rattle.og_check.specs.Cores as spec;
@@ -10,9 +10,10 @@ use crate::conditions::{conds_of, where_of};
 use crate::names::{Names, alias_of, known_columns};
 use crate::refusal::CheckRefusal;
 use crate::sight::{Item, Sight};
+use og_base::NoMemory;
 use og_query::{Cond, From1, Semi};
 use og_syntax::{FromText, SemiText};
-use og_value::{Catalog, Name};
+use og_value::{Catalog, Name, Schema};
 use sqlite_items::Items;
 use std::alloc::Global;
 
@@ -60,12 +61,18 @@ fn with_table<'a, C: Catalog>(
     unused(alias, from.items.as_slice())?;
     from.items.push(Item::of(alias, columns))?;
     let conds = conds_of(alloc, &Sight::of(from.items.as_slice()), &table.on)?;
-    from.tables.push(From1 {
-        name: table.name.copy()?,
-        schema: columns.copy()?,
-    })?;
     from.conds.append(conds)?;
+    from.tables.push(table_of(&table.name, columns)?)?;
     Ok(from)
+}
+
+// The table of a name and its columns.
+fn table_of(name: &Name, columns: &Schema) -> Result<From1, NoMemory>
+    ensures { IfOk result (λ table. table ≡ record { name = name.now; schema = columns.now }) }
+{
+    let name = name.copy()?;
+    let schema = columns.copy()?;
+    Ok(From1 { name, schema })
 }
 
 // `NameTaken` exactly where one of the items has the alias.
@@ -117,14 +124,12 @@ fn semi_of<C: Catalog>(
     let columns = known_columns(known, names, &semi.name)?;
     let alias = alias_of(&semi.name, &semi.alias);
     unused(alias, items)?;
+    let table = table_of(&semi.name, columns)?;
     let sub = [Item::of(alias, columns)];
     let cond = where_of(alloc, &Sight::with_sub(items, &sub), &semi.cond)?;
     Ok(Semi {
         positive: semi.positive,
-        table: From1 {
-            name: semi.name.copy()?,
-            schema: columns.copy()?,
-        },
+        table,
         cond,
     })
 }

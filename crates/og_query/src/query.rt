@@ -103,12 +103,17 @@ impl Core {
     pub fn copy(&self, alloc: Global) -> Result<Core, NoMemory>
         ensures { IfOk result (λ c. c ≡ self.now) }
     {
+        let tables = copy_tables(alloc, &self.tables)?;
+        let semis = copy_semis(alloc, &self.semis)?;
+        let items = copy_expressions(alloc, &self.items)?;
+        let schema = self.schema.copy()?;
+        let cond = self.cond.copy(alloc)?;
         Ok(Core {
-            tables: copy_tables(alloc, &self.tables)?,
-            cond: self.cond.copy(alloc)?,
-            semis: copy_semis(alloc, &self.semis)?,
-            items: copy_expressions(alloc, &self.items)?,
-            schema: self.schema.copy()?,
+            tables,
+            cond,
+            semis,
+            items,
+            schema,
         })
     }
 }
@@ -130,9 +135,8 @@ impl Query {
     pub fn copy(&self, alloc: Global) -> Result<Query, NoMemory>
         ensures { IfOk result (λ q. q ≡ self.now) }
     {
-        Ok(Query {
-            first: self.first.copy(alloc)?,
-            rest: copy_rests(alloc, &self.rest)?,
-        })
+        let rest = copy_rests(alloc, &self.rest)?;
+        let first = self.first.copy(alloc)?;
+        Ok(Query { first, rest })
     }
 }

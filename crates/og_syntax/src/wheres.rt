@@ -113,14 +113,13 @@ fn where_end<'a>(
 ) -> Result<(Where, &'a [Lexeme]), Refusal>
     ensures { Gives result (spec.where_end script.now strict (spec.neg_in script.now strict depth) parts lexemes.now) }
 {
-    let first = all_of(parts);
     if same_sort(sort_at(lexemes), Sort::And) {
         let rest = expect(lexemes, Sort::And)?;
         let (semis, rest) = semis(alloc, script, strict, rest)?;
-        return Ok(((Some(first), semis), rest));
+        return Ok(((Some(all_of(parts)), semis), rest));
     }
-    let mut parts = Items::new(alloc);
-    parts.push(first)?;
-    let (parts, rest) = more_conjunctions_in(alloc, script, strict, lexemes, depth, parts)?;
-    Ok(((Some(any_of(parts)), Items::new(alloc)), rest))
+    let mut either = Items::new(alloc);
+    either.push(all_of(parts))?;
+    let (either, rest) = more_conjunctions_in(alloc, script, strict, lexemes, depth, either)?;
+    Ok(((Some(any_of(either)), Items::new(alloc)), rest))
 }
