@@ -1,5 +1,5 @@
 //! A phase: the items of a slice cut into chunks, one for each worker.
-ghost use Rattle.std.specs.Prelude.{◌≡◌, ◌≤◌, ◌<◌, List, IfOk};
+ghost use Rattle.std.specs.Prelude.{◌≡◌, ◌≤◌, ◌<◌, ◌++◌, List, IfOk};
 ghost use Rattle.og_par.specs.Phase.{AllowsOne, MadeOfEach};
 ghost use Rattle.og_par.specs.Parts.{JoinsAll};
 
@@ -71,10 +71,21 @@ fn joined<X: Drop>(alloc: Global, parts: Vec<Result<Vec<X>, NoMemory>>) -> Resul
 {
     let mut all = Vec::new(alloc);
     'parts: for part in parts {
-        let mut made = part?;
-        all.append(&mut made)?;
+        all = followed(all, part?)?;
     }
     Ok(all)
+}
+
+// The second list after the first; where the first is empty, the second as it lies in memory.
+fn followed<X: Drop>(first: Vec<X>, second: Vec<X>) -> Result<Vec<X>, NoMemory>
+    ensures { IfOk result (λ v. v.items ≡ first.items ++ second.items) }
+{
+    if first.is_empty() {
+        return Ok(second);
+    }
+    let (mut first, mut second) = (first, second);
+    first.append(&mut second)?;
+    Ok(first)
 }
 
 /// Where a piece allows one list for each item, what is made of the items is one list, for all

@@ -33,7 +33,7 @@ pub(crate) fn present_rows<R: Instant>(
 ) -> Result<Vec<R::Fixed>, NoMemory>
     ensures { IfOk result (λ v. v.items ≡ present_of_pairs R.meaning pairs.now d) }
 {
-    let mut rows = Vec::new(alloc);
+    let mut rows = Vec::with_capacity(alloc, pairs.len())?;
     'pairs: for pair in pairs {
         add_row(alloc, pair, d, &mut rows)?;
     }

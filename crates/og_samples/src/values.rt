@@ -36,20 +36,23 @@ fn other_bytes_are_no_name(rt: HostRuntime) {
     assert_no_names(&rt, &["2x", "", "a-b", "a b", "\u{e4}"]);
 }
 
-// Asserts what is said of a text that is read.
-fn assert_text<H: AllocGlobal + Abort>(rt: &H) -> Result<(), Fail> {
-    let text = Text::of(rt.alloc(), b"a")?;
-    assert_eq!(rt; text.as_str(), "a");
-    assert_eq!(rt; text.bytes(), b"a".as_slice());
-    assert!(rt; text.copy()? == text);
-    let refused = Text::of(rt.alloc(), b"\xff").is_err();
-    assert!(rt; refused);
+// Asserts that each text is read and copied as it is.
+fn assert_texts<H: AllocGlobal + Abort>(rt: &H, texts: &[&str]) -> Result<(), Fail> {
+    for text in texts {
+        let read = Text::of(rt.alloc(), text.as_bytes())?;
+        assert_eq!(rt; read.as_str(), *text);
+        assert_eq!(rt; read.bytes(), text.as_bytes());
+        assert!(rt; read.copy()? == read);
+    }
     Ok(())
 }
 
+// Texts of up to 14 bytes are held otherwise than longer ones.
 #[test]
 fn a_text_is_utf8(rt: HostRuntime) -> Result<(), Fail> {
-    assert_text(&rt)
+    let refused = Text::of(rt.alloc(), b"\xff").is_err();
+    assert!(rt; refused);
+    assert_texts(&rt, &["", "a", "fourteen bytes", "fourteen bytes!"])
 }
 
 // Asserts that each text comes before the next.
@@ -63,7 +66,8 @@ fn assert_rising<H: AllocGlobal + Abort>(rt: &H, texts: &[(&str, &str)]) -> Resu
 
 #[test]
 fn texts_are_ordered_by_their_bytes(rt: HostRuntime) -> Result<(), Fail> {
-    assert_rising(&rt, &[("Z", "Zz"), ("Zz", "a")])
+    let next = ("fourteen bytes", "fourteen bytes!");
+    assert_rising(&rt, &[("Z", "Zz"), ("Zz", "a"), next, (next.1, "g")])
 }
 
 // Asserts that a schema of the column has it, and its copy too.

@@ -2,6 +2,7 @@ pub mod Cells
 pub mod Exact
 pub mod GroupLaws
 pub mod Groups
+pub mod Held
 pub mod Order
 pub mod Schemas
 pub mod Steady

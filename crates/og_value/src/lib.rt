@@ -9,6 +9,7 @@ mod listed;
 mod name;
 mod row;
 mod schema;
+mod short;
 mod term;
 mod text;
 mod value;

@@ -1,8 +1,10 @@
 //! Texts in UTF-8.
 ghost use Rattle.std.specs.Prelude.{◌≡◌, Err, IfOk};
 ghost use Rattle.std.specs.Str.{IsUtf8};
+ghost use Rattle.og_value.specs.Held.{held_bytes};
 ghost use Rattle.og_value.specs.declared.text.TextRefusal.{TextRefusal};
 
+use crate::short::Short;
 use og_base::NoMemory;
 use std::alloc::{AllocError, Global};
 use std::cmp::Ordering;
@@ -32,19 +34,44 @@ impl From<AllocError> for TextRefusal {
     }
 }
 
-/// A text, seen as its bytes in UTF-8. Texts are ordered by their bytes. Copies share the bytes.
+// Where the bytes of a text lie.
+#[derive(Debug, Drop)]
+enum Held {
+    // In the value itself.
+    Short(Short),
+    // In memory that all copies share.
+    Long(ArcStr),
+}
+
+/// A text, seen as its bytes in UTF-8. Texts are ordered by their bytes. One of at most 14 bytes takes
+/// no memory of its own, and copies of a longer one share the bytes.
 #[derive(Debug, Drop)]
 pub struct Text {
-    text: ArcStr,
+    held: Held,
 }
 
 impl Model for Text {
     ghost use Rattle.std.specs.Prelude.{List, ℕ};
-    ghost use Rattle.std.specs.Arc.{arc_str_bytes};
+    ghost use Rattle.std.specs.Str.{IsUtf8};
+    ghost use Rattle.og_value.specs.Held.{held_bytes};
 
     ghost Value = { List ℕ };
 
-    ghost view = { λ t. arc_str_bytes t.text };
+    ghost view = { λ t. held_bytes t.held };
+
+    ghost invariant = { λ t. IsUtf8 (held_bytes t.held) };
+}
+
+impl Held {
+    // The text in the value itself where it fits there.
+    fn of(alloc: Global, text: &str) -> Result<Held, AllocError>
+        ensures { IfOk result (λ held. held_bytes held ≡ text.now) }
+    {
+        if let Some(short) = Short::of(text) {
+            return Ok(Held::Short(short));
+        }
+        Ok(Held::Long(ArcStr::from_str(alloc, text)?))
+    }
 }
 
 impl Text {
@@ -57,37 +84,46 @@ impl Text {
         let Ok(text) = str::from_utf8(bytes) else {
             return Err(TextRefusal::NotText);
         };
-        let text = ArcStr::from_str(alloc, text)?;
-        Ok(Text { text })
+        let held = Held::of(alloc, text)?;
+        Ok(Text { held })
     }
 
     /// A text is UTF-8.
     pub fn utf8(&self)
         ensures { IsUtf8 self.now }
     {
-        let _ = &self.text;
+        let _ = &self.held;
     }
 
     /// The text as a string.
     pub fn as_str(&self) -> &str
         ensures { result.now ≡ self.now }
     {
-        self.text.as_str()
+        match &self.held {
+            Held::Short(text) => text.as_str(),
+            Held::Long(text) => text.as_str(),
+        }
     }
 
     /// The bytes of the text.
     pub fn bytes(&self) -> &[u8]
         ensures { result.now ≡ self.now }
     {
-        self.text.as_str().as_bytes()
+        match &self.held {
+            Held::Short(text) => text.bytes(),
+            Held::Long(text) => text.as_str().as_bytes(),
+        }
     }
 
-    /// The same text once more, which shares its bytes. Takes no memory for them.
+    /// The same text once more. Takes no memory for its bytes.
     pub fn copy(&self) -> Result<Text, NoMemory>
         ensures { IfOk result (λ t. t ≡ self.now) }
     {
-        let text = self.text.clone()?;
-        Ok(Text { text })
+        let held = match &self.held {
+            Held::Short(text) => Held::Short(text.copy()),
+            Held::Long(text) => Held::Long(text.clone()?),
+        };
+        Ok(Text { held })
     }
 }
 
@@ -101,7 +137,7 @@ impl PartialEq for Text {
     ghost laws = { partial_equiv_from_equiv nat_list_eq_equiv };
 
     fn eq(&self, other: &Text) -> bool {
-        self.text.as_str() == other.text.as_str()
+        self.bytes() == other.bytes()
     }
 }
 
@@ -139,6 +175,6 @@ impl Ord for Text {
     ghost matches_eq = { texts_ties };
 
     fn cmp(&self, other: &Text) -> Ordering {
-        self.text.as_str().cmp(other.text.as_str())
+        self.bytes().cmp(&other.bytes())
     }
 }

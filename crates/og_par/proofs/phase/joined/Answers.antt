@@ -3,4 +3,4 @@ use Rattle.og_par.proofs.phase.joined.Goals as goal
 
 pub parts-preserved : goal.parts-preserved
 parts-preserved g c =
-    JoinsAll-push c.parts.yielded c.in-Some.part c.in_ok-made.made c.parts.all.items _ c.in_ok-made.was c.in_ok-append.ensures.items c.parts.invariant
+    JoinsAll-push c.parts.yielded c.in-Some.part c.in_ok-part.field-0 c.parts.all.items _ c.in_ok-part.was c.in_ok-all.ensures c.parts.invariant

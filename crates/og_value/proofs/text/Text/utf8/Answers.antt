@@ -1,7 +1,0 @@
-use Rattle.std.proofs.Common.{subst}
-use Rattle.std.specs.Str.{IsUtf8}
-use Rattle.std.proofs.lemmas.Str.{IsUtf8-string_bytes}
-use Rattle.og_value.proofs.text.Text.utf8.Goals as goal
-
-pub returns : goal.returns
-returns c = subst IsUtf8 c.self.view_is (IsUtf8-string_bytes c.self.inside.text.text.value)
