@@ -2,3 +2,4 @@ pub mod AlgebraLemmas
 pub mod BlockLemmas
 pub mod PairLemmas
 pub mod PresentLemmas
+pub mod RisingLemmas

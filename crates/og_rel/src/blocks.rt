@@ -3,7 +3,8 @@ ghost use Rattle.std.specs.Prelude.{◌≡◌, IfOk};
 ghost use Rattle.std.specs.List.{flat_map};
 
 use crate::pair::{Pair, present_rows};
-use og_base::{Instant, NoMemory, RefDay, rising};
+use crate::rising_rows::rising_rows;
+use og_base::{Instant, NoMemory, RefDay};
 use og_par::Piece;
 use std::alloc::Global;
 
@@ -42,7 +43,7 @@ impl<'a, R: Instant> Piece<&'a [Pair<R>]> for AtDay {
         out: &mut Vec<R::Fixed>,
     ) -> Result<(), NoMemory> {
         let rows = present_rows(alloc, *item, self.day)?;
-        let mut made = rising(rows)?;
+        let mut made = rising_rows(rows)?;
         out.append(&mut made)?;
         Ok(())
     }

@@ -4,6 +4,7 @@
 mod blocks;
 mod pair;
 mod relation;
+mod rising_rows;
 mod tables;
 
 pub use relation::Rel;

@@ -6,7 +6,8 @@ ghost use Rattle.og_rel.specs.Relations.{HasDays, relation_at, stored};
 
 use crate::blocks::{AtDay, blocks_of};
 use crate::pair::{Pair, present_rows};
-use og_base::{Instant, NoMemory, OngoingRow, RefDay, RtSet, rising};
+use crate::rising_rows::rising_rows;
+use og_base::{Instant, NoMemory, OngoingRow, RefDay, RtSet};
 use og_par::{Gate, par_rows};
 use std::alloc::Global;
 use std::marker::Model;
@@ -123,7 +124,7 @@ impl<R: OngoingRow> Rel<R> {
     {
         let alloc = *self.pairs.allocator();
         let rows = present_rows(alloc, self.pairs.as_slice(), d)?;
-        rising(rows)
+        rising_rows(rows)
     }
 
     /// The list of `at`, made by several workers: each makes the lists of some blocks of rows.
@@ -146,6 +147,6 @@ impl<R: OngoingRow> Rel<R> {
         let blocks = blocks_of(alloc, self.pairs.as_slice())?;
         let at_day = AtDay { day: d };
         let rows = par_rows(rt, alloc, workers, blocks.as_slice(), &at_day, gate)?;
-        rising(rows)
+        rising_rows(rows)
     }
 }

@@ -16,7 +16,7 @@ returns g c =
     let o : IsExactOrder cmp = record { total = ord.total; exact = row.exact } in
     let made = set_of-blocks o at c.args.d _ _ c.in_ok-rows.ensures in
     let all = c.in_ok-blocks.ensures ∙ c.as_slice.ensures.value in
-    IfOk-weaker c.rising.result _ _ (λ rows e. e ∙ made
+    IfOk-weaker c.rising_rows.result _ _ (λ rows e. e ∙ made
     ∙ ap (λ blocks. set_of cmp (present_of_pairs at (flat_map (λ b. b.now) blocks) c.args.d)) c.as_slice-2.ensures.value
     ∙ ap (λ pairs. set_of cmp (present_of_pairs at pairs c.args.d)) all
-    ∙ ap (λ rel. relation_at cmp at rel c.args.d) c.self.view_is) c.rising.ensures
+    ∙ ap (λ rel. relation_at cmp at rel c.args.d) c.self.view_is) c.rising_rows.ensures
