@@ -20,24 +20,3 @@ fn place_of(text: &[u8], byte: u8) -> Option<usize>
 {
     text.iter().position(|b| *b == byte)
 }
-
-#[cfg(test)]
-mod tests {
-    use super::*;
-
-    #[test]
-    fn a_text_is_cut_at_its_first_such_byte(rt: HostRuntime) {
-        for (text, before, after) in &[
-            ("2020-01-01+2021-01-01", "2020-01-01", "2021-01-01"),
-            ("a+b+c", "a", "b+c"),
-            ("+", "", ""),
-        ] {
-            let cut = cut_at(text.as_bytes(), b'+');
-            assert!(rt;
-                cut == Some((before.as_bytes(), after.as_bytes())),
-                "{text}"
-            );
-        }
-        assert!(rt; cut_at(b"now", b'+').is_none());
-    }
-}

@@ -1,4 +1,15 @@
 //! Days, sets of days and their texts, and the words that every crate above speaks in.
+//!
+//! A set of days, `RtSet`, holds a day after each of its operations exactly as that operation on
+//! sets says (`holds_day` in specs/Ranges.antt), and is in one normal form. Texts of days and of
+//! sets are read exactly where they are such, with their value, and written as the one text of it
+//! (`read_day`, `write_day`, `read_rt`, `write_rt`; specs/Calendar.antt, specs/SetTexts.antt).
+//! `rising` gives the members of a list in order, each once (`set_of` in specs/Set.antt). The
+//! traits `Instant`, `OngoingRow`, `Grouped`, `Glue`, `DayCond`, `RowMap` and `Envelope` have as
+//! laws what a crate above asks of rows, conditions, maps and spans.
+//!
+//! No tests here: those of single texts stand in og_samples, and what scripts reach is tested by
+//! the cases.
 #![tactic(auto)]
 
 mod bytes;

@@ -13,19 +13,3 @@ pub fn rising<T: Ord + Drop>(mut values: Vec<T>) -> Result<Vec<T>, NoMemory>
     values.dedup();
     Ok(values)
 }
-
-#[cfg(test)]
-mod tests {
-    use super::*;
-
-    #[test]
-    fn a_rising_list_has_each_value_once(rt: HostRuntime) -> Result<(), NoMemory> {
-        let mut values: Vec<i32> = Vec::new(rt.alloc());
-        for v in [3, 1, 3, 2] {
-            values.push(v)?;
-        }
-        let set = rising(values)?;
-        assert_eq!(rt; set.as_slice(), [1, 2, 3].as_slice());
-        Ok(())
-    }
-}

@@ -57,19 +57,3 @@ impl Words {
         self.words[i].as_str()
     }
 }
-
-#[cfg(test)]
-mod tests {
-    use super::*;
-
-    #[test]
-    fn words_stand_in_the_order_in_which_they_came(rt: HostRuntime) -> Result<(), NoMemory> {
-        let mut words = Words::new(rt.alloc());
-        words.add("run")?;
-        words.add("--workers=4")?;
-        assert_eq!(rt; words.len(), 2);
-        assert_eq!(rt; words.word(0), "run");
-        assert_eq!(rt; words.word(1), "--workers=4");
-        Ok(())
-    }
-}

@@ -1,4 +1,13 @@
 //! The checks of statements: names, kinds and counts.
+//!
+//! `check` gives exactly the typed statement, or exactly the first fault in the order of the
+//! checks, as `checked` says (specs/Statements.antt, over Cores.antt, Expressions.antt and
+//! Sight.antt, a line for each check), or is refused for want of memory. It looks at what a
+//! `Catalog` tells of names and columns, and at no row. `checked_fits` says that a statement
+//! without a fault fits the names and kinds that it names (`IsFit` of og_query), which og_db asks
+//! for.
+//!
+//! No tests here: scripts reach it, so the cases test it (docs/CASES.md).
 #![tactic(auto)]
 
 mod changes;

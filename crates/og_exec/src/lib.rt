@@ -1,4 +1,13 @@
 //! The execution of plans: the answer of a plan on all days at once.
+//!
+//! `exec` takes a plan that is made well (`is_sound` of og_plan) and tables that are there
+//! (`AreThere` in specs/Tables.antt). On every day, and for 1 to 64 workers, its relation has
+//! exactly the rows that the plan means over the tables of that day (`plan_rows` of og_plan), and
+//! it has at most as many rows as the size of the plan says. Which rows a join tries is no part of
+//! the contract.
+//!
+//! No tests here: those of several workers stand in og_samples, and what scripts reach is tested by
+//! the cases.
 #![tactic(auto)]
 
 mod answer;

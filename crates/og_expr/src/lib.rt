@@ -1,4 +1,13 @@
 //! Conditions and items of queries, on rows that depend on the day.
+//!
+//! `CondDays` and `PartDays` give exactly the days on which a condition, or all of some conditions,
+//! are true of the row of that day (`truth` of og_query), and those of two rows glued, without
+//! gluing them; a pair of which a condition may not hold has no such day. `value_on` and `ItemMap`
+//! give the value and the row that are on every day those of the expressions on the row of that day
+//! (`meaning` and `image` of og_query). All of it holds also where a tree does not fit the row. The
+//! laws are those of `DayCond` and `RowMap` of og_base.
+//!
+//! No tests here: scripts reach it, so the cases test it (docs/CASES.md).
 #![tactic(auto)]
 
 mod bounds;

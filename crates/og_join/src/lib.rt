@@ -1,5 +1,15 @@
-//! Joins: the rows of two relations that can meet on some day, found by their keys or by the
-//! spans of their days.
+//! Joins: the rows of two relations that can meet on some day, found by their keys or by the spans
+//! of their days.
+//!
+//! On every day and for 1 to 64 workers `key_join` has the glued rows whose keys are equal and for
+//! which a condition holds, and `overlap_join` those for which it holds, where it holds of no two
+//! rows whose spans do not overlap (`joined` and `AreTold` in specs/Joined.antt). Neither has more
+//! rows than the product. `candidates` tells the pairs of places of two rising lists of spans that
+//! overlap, each once (specs/Overlaps.antt, `each_pair_once`), and counts at most two steps a span
+//! and one a pair. The traits `Keys` and `Spans` give the keys and the spans of rows.
+//!
+//! No tests here: og_samples has the traits at small types, and what scripts reach is tested by the
+//! cases.
 #![tactic(auto)]
 
 mod blocks;

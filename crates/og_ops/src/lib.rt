@@ -1,4 +1,14 @@
 //! Operators on relations: on every day the plain operator on the rows of that day.
+//!
+//! `apply` of the traits `UnaryOp` and `BinaryOp` has as its law what an operator is on the set of
+//! the rows of one day, and gives no more rows than it says: `Select`, `Restrict`, `Project`,
+//! `Split`, `Product`, `Union`, `Difference` and `Intersection` (specs/Plain.antt). `semijoin`
+//! keeps a row of the left on exactly those of its days on which it meets some row of the right, or
+//! none, by a `Matching` (specs/Wanted.antt). `test_pair` glues two rows on exactly the days on
+//! which both are present and a condition holds of the glued row (specs/Days.antt). All of it holds
+//! for every type of rows that has the laws of og_base.
+//!
+//! No tests here: scripts reach it, so the cases test it (docs/CASES.md).
 #![tactic(auto)]
 
 mod matching;

@@ -1,4 +1,13 @@
 //! Scripts: the tree of each, or the first statement that has none.
+//!
+//! `parse` gives exactly the statements that the statement grammar gives the tokens of a script
+//! (`IsScript` in specs/Script.antt, over specs/Statements.antt), or refuses with exactly the first
+//! fault and the number of its statement (`IsFirstFault`): too deep (specs/Depth.antt), else no
+//! statement, else one with a literal that is not of its form; or for want of memory. The laws say
+//! that tokens have one list of statements or one first fault, not both (`one_tree`,
+//! `tree_or_fault`), and that a strict statement is a lenient one (`strict_is_lenient`).
+//!
+//! No tests here: scripts reach it, so the cases test it (docs/CASES.md).
 #![tactic(auto)]
 
 mod answers;

@@ -1,4 +1,14 @@
 //! Typed statements, and what a query means on one day.
+//!
+//! `meaning`, `truth` and `ordinary_query` (specs/Expressions.antt, Conditions.antt, Queries.antt)
+//! say what expressions, conditions and queries are over plain rows of one day, and `query_size`
+//! (specs/Sizes.antt) how many rows an answer has at most. `ordinary` computes the rows of a query
+//! whose literals are the same on all days. `IsFit` (specs/Fits.antt) says what a checked statement
+//! promises. The laws: `answers_are_sets`, `answers_keep_the_size`, `fitting_values`,
+//! `one_condition_after_the_other` and `tables_in_either_order`. `copy` of a tree equals its
+//! source.
+//!
+//! No tests here: those of `ordinary` stand in og_samples.
 #![tactic(auto)]
 
 mod algebra;

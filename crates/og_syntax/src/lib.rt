@@ -1,4 +1,13 @@
 //! What a script says: its trees, and the grammar of expressions, conditions and queries.
+//!
+//! `literal`, `expression`, `condition` and `query` read the front of a list of lexemes; each is a
+//! function of specs/Reader.antt. `readers_are_rules` says that these functions are the rules of
+//! specs/Grammar.antt: what is read is by its rule, and what is by a rule is read, as one tree,
+//! where no lexeme follows that goes on with it (specs/Follow.antt). Strictly, the text after DATE,
+//! ONGOING and PERIOD has to be of its form; leniently, a number stands for any text there. `copy`
+//! of a tree equals its source.
+//!
+//! No tests here: scripts reach it, so the cases test it (docs/CASES.md).
 #![tactic(auto)]
 
 mod conditions;

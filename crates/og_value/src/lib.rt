@@ -1,4 +1,14 @@
 //! Values, rows and schemas, their cells, and what a crate above must know of named tables.
+//!
+//! `Row` has the laws of the traits of og_base: it is on each day the list of its values on that
+//! day (`row_at` in specs/Values.antt). Rows of one day, `FixedRow`, are in the order of
+//! specs/Order.antt, which ties only rows that are the same (`order_of_rows`). Cells are read
+//! exactly where they are such, with their value, and written as the one text of it (`read_cell`,
+//! `write_cell`, `write_fixed`; specs/Cells.antt). A `Text` is UTF-8, a `Name` is a word in lower
+//! case, a `Schema` has 1 to 64 columns. The trait `Catalog` tells what each name stands for.
+//!
+//! No tests here: those of single cells and of rows stand in og_samples, and what scripts reach is
+//! tested by the cases.
 #![tactic(auto)]
 
 mod catalog;

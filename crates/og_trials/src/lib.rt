@@ -1,0 +1,20 @@
+//! Cases: scripts with what a run of each must write, as texts that lie in files (docs/CASES.md).
+//!
+//! The crate promises no more than that it is safe and ends. What it finds of a run is a test, and no
+//! proof. `carry_out` reads the files that the words of a program name and runs their cases through the
+//! top call, `run` of og_session, once or in many ways. The programs og_cases and og_large_cases are this
+//! call and their files.
+#![tactic(auto)]
+
+mod case;
+mod file;
+mod piece;
+mod program;
+mod reckoning;
+mod refusal;
+mod report;
+mod trial;
+mod ways;
+
+pub use program::carry_out;
+pub use ways::Ways;
