@@ -2,15 +2,16 @@
 ghost use Rattle.std.specs.Prelude.{◌≤◌};
 
 use crate::relations::lines;
-use og_base::RefDay;
+use og_base::{NoMemory, RefDay};
 use og_check::{check, checked_fits};
 use og_db::Db;
 use og_lex::lex;
 use og_par::OpenGate;
 use og_parse::parse;
 use og_query::{Query, Typed, ordinary};
-use og_rel::Tables;
+use og_rel::{Rel, Tables};
 use og_syntax::Stmt;
+use og_value::{FixedRow, Name, Row};
 use std::alloc::Global;
 use std::process::Abort;
 use std::test::Fail;
@@ -38,20 +39,33 @@ fn carried<H: Threads + Sync + AllocGlobal>(
     let typed = check(rt.alloc(), stmt, db)?;
     match &typed {
         Typed::PrintQuery { query, day } => {
-            let rel = db.answer(rt, rt.alloc(), query, workers, &OpenGate)?;
-            let rows = rel.at(*day)?;
-            let lines = lines(rt.alloc(), rows.as_slice())?;
-            out.engine.extend_from_slice(lines.as_slice())?;
-            let lines = plain(rt.alloc(), query, db, *day)?;
-            out.plain.extend_from_slice(lines.as_slice())?;
+            let rel = db.answer(rt, rt.alloc(), query, workers, &OpenGate);
+            add_answers(rt.alloc(), rel, query, db, *day, out)
         }
-        other => db.execute(rt, rt.alloc(), other, workers, &OpenGate)?,
+        other => Ok(db.execute(rt, rt.alloc(), other, workers, &OpenGate)?),
     }
+}
+
+// Appends the lines of the engine's answer on the day, and those of the plain evaluator's.
+fn add_answers(
+    alloc: Global,
+    rel: Result<Rel<Row>, NoMemory>,
+    query: &Query,
+    db: &Db,
+    day: RefDay,
+    out: &mut Answers,
+) -> Result<(), Fail> {
+    let rows = rel?.at(day)?;
+    let engine = lines(alloc, rows.as_slice())?;
+    out.engine.extend_from_slice(engine.as_slice())?;
+    let rows = plain_rows(alloc, query, db, day)?;
+    let plain = lines(alloc, rows.as_slice())?;
+    out.plain.extend_from_slice(plain.as_slice())?;
     Ok(())
 }
 
-// The lines of the answer that the plain evaluator gives to a copy of the query on the day.
-fn plain(alloc: Global, query: &Query, db: &Db, day: RefDay) -> Result<Vec<u8>, Fail> {
+// The rows that the plain evaluator gives on the day to a copy of the query.
+fn plain_rows(alloc: Global, query: &Query, db: &Db, day: RefDay) -> Result<Vec<FixedRow>, Fail> {
     let mut names = Vec::new(alloc);
     let mut tables = Vec::new(alloc);
     for place in 0..db.len() {
@@ -62,12 +76,21 @@ fn plain(alloc: Global, query: &Query, db: &Db, day: RefDay) -> Result<Vec<u8>, 
         tables.push(rel.at(day)?)?;
         names.push(name)?;
     }
-    let query = query.copy(alloc)?;
+    let copy = query.copy(alloc)?;
+    evaluated(alloc, &copy, names.as_slice(), tables.as_slice())
+}
+
+// The rows of the query over those tables, where its literals are the same on all days.
+fn evaluated(
+    alloc: Global,
+    query: &Query,
+    names: &[Name],
+    tables: &[Vec<FixedRow>],
+) -> Result<Vec<FixedRow>, Fail> {
     if !query.is_steady() {
         return Err(Fail::new("a query that is not the same on all days"));
     }
-    let rows = ordinary(alloc, &query, names.as_slice(), tables.as_slice())?;
-    Ok(lines(alloc, rows.as_slice())?)
+    Ok(ordinary(alloc, query, names, tables)?)
 }
 
 // The answers to all queries that the script prints.
@@ -126,21 +149,5 @@ PRINT SELECT b.id, p.pid FROM bugs b, patch p WHERE b.vt OVERLAPS p.vt AND b.com
 PRINT SELECT b.id FROM bugs b JOIN patch p ON b.vt OVERLAPS p.vt WHERE b.id = 500 AS OF DATE '2020-08-16';
 PRINT SELECT id FROM bugs b WHERE NOT EXISTS (SELECT * FROM patch p WHERE p.vt OVERLAPS b.vt) AS OF DATE '2020-08-15';",
         "500,201\n501,201\n500\n500\n",
-    )
-}
-
-#[test]
-fn joins_of_every_shape_have_one_answer(rt: HostRuntime) -> Result<(), Fail> {
-    assert_answered(
-        &rt,
-        "CREATE TABLE a (n INT, c TEXT, p PERIOD);
-INSERT INTO a VALUES (1, 'x', PERIOD '[2020-01-01,2020-02-01)'), (1, 'y', PERIOD '[2020-01-01,2020-02-01)'), (2, 'x', PERIOD '[2020-01-01,2020-02-01)');
-CREATE TABLE b (n INT, c TEXT, p PERIOD);
-INSERT INTO b VALUES (1, 'x', PERIOD '[2020-01-01,2020-02-01)'), (2, 'x', PERIOD '[2020-01-01,now)'), (3, 'y', PERIOD '[2020-03-01,2020-04-01)');
-PRINT SELECT a.n, a.c FROM a, b WHERE a.n = b.n AND b.c = a.c AS OF DATE '2020-05-01';
-PRINT SELECT a.n FROM a, b WHERE a.p OVERLAPS b.p AND b.n = 3 AS OF DATE '2020-05-01';
-PRINT SELECT a.n, b.n, d.c FROM a, b, a d WHERE a.c = 'x' AND b.n < 3 AND d.n = 1 AND (a.n = 1 OR b.n = 1) AND (d.c = 'y' OR a.n = b.n) AS OF DATE '2020-05-01';
-PRINT SELECT n FROM a EXCEPT SELECT n FROM b UNION SELECT 7 FROM b AS OF DATE '2020-05-01';",
-        "1,x\n2,x\n1,1,x\n1,1,y\n1,2,y\n2,1,y\n7\n",
     )
 }

@@ -72,6 +72,13 @@ fn a_set_is_taken_out_of_another_and_of_all_days(rt: HostRuntime) -> Result<(), 
     Ok(())
 }
 
+#[test]
+fn no_day_is_below_all_or_above_the_last(rt: HostRuntime) -> Result<(), Fail> {
+    assert!(rt; RtSet::below(rt.alloc(), read_day(b"-infinity")?)?.is_empty());
+    assert!(rt; RtSet::above(rt.alloc(), read_day(b"9999-12-31")?)?.is_empty());
+    Ok(())
+}
+
 // The text of the days that the four cuts have in common.
 fn days_of(alloc: Global, cuts: [Cut; 4]) -> Result<Vec<u8>, NoMemory> {
     let [first, second, third, fourth] = cuts;

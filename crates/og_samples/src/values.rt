@@ -63,6 +63,7 @@ fn a_schema_has_its_columns(rt: HostRuntime) -> Result<(), Fail> {
 fn assert_cells<H: AllocGlobal + Abort>(rt: &H, cases: &[(Kind, &str, &str)]) -> Result<(), Fail> {
     for (kind, text, written) in cases {
         let value = read_cell(rt.alloc(), *kind, text.as_bytes())?;
+        assert!(rt; value.copy()? == value, "{text}");
         let mut out = Vec::new(rt.alloc());
         write_cell(&value, &mut out)?;
         assert_eq!(rt; out.as_slice(), written.as_bytes(), "{text}");

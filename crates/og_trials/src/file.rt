@@ -162,13 +162,16 @@ fn sign_of(text: &str) -> Result<Sign, Refusal> {
 
 fn add_piece(alloc: Global, piece: &Piece<'_>, out: &mut Vec<u8>) -> Result<(), Refusal> {
     let end = match piece.sign {
-        Sign::Part => "",
-        _ => "\\n",
+        Sign::Part => b"".as_slice(),
+        _ => b"\n".as_slice(),
     };
-    let text = format!(in alloc; "{}{end}", piece.text)?;
     match piece.turns {
-        Some(turns) => append_turns(alloc, text.as_str(), turns, out),
-        None => append(text.as_str(), out),
+        Some(turns) => append_turns(alloc, piece.text, end, turns, out),
+        None => {
+            append(piece.text, out)?;
+            out.extend_from_slice(end)?;
+            Ok(())
+        }
     }
 }
 

@@ -66,10 +66,11 @@ enum Part {
     Day(Reckoning),
 }
 
-/// Appends the text so many times, in each turn with the numbers and the days of that turn.
+/// Appends the text and its end so many times, in each turn with the numbers and the days of that turn.
 pub fn append_turns(
     alloc: Global,
     text: &str,
+    end: &[u8],
     turns: usize,
     out: &mut Vec<u8>,
 ) -> Result<(), Refusal> {
@@ -78,6 +79,7 @@ pub fn append_turns(
         for part in &parts {
             append_part(alloc, part, turn, out)?;
         }
+        out.extend_from_slice(end)?;
     }
     Ok(())
 }
