@@ -1,6 +1,7 @@
 //! A block of left spans, joined with all right spans.
 ghost use Rattle.std.specs.Prelude.{◌≡◌, ◌<◌, ◌≤◌, ◌*◌, IfOk, length};
 ghost use Rattle.std.specs.List.Sorted.{IsPermutation};
+ghost use Rattle.og_par.specs.Limits.{max_workers};
 ghost use Rattle.og_join.specs.Overlaps.{Rises, overlaps};
 ghost use Rattle.og_join.specs.Tried.{AreJoined};
 
@@ -32,7 +33,7 @@ pub(crate) fn join_block<
 where
     R::Fixed: Send,
     requires least { 1 ≤ workers }
-    requires most { workers ≤ 64 }
+    requires most { workers ≤ max_workers }
     requires left_rises { Rises (λ o. o.lo) block.now.left_spans.now }
     requires right_rises { Rises (λ o. o.lo) block.now.right_spans.now }
     ensures rows { IfOk result (AreJoined R.glued R.meaning (C.holds block.now.cond.now) block.now.left.now block.now.right.now block.now.right_spans.now block.now.left_spans.now) }

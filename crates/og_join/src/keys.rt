@@ -3,6 +3,7 @@ ghost use Rattle.std.specs.Prelude.{◌≡◌, ◌≤◌, ◌*◌, ◌&&◌, ℤ
 ghost use Rattle.std.specs.Ordering.{eq_by_cmp};
 ghost use Rattle.og_base.specs.Calendar.{IsRefDay};
 ghost use Rattle.og_base.specs.Set.{IsExact, set_of};
+ghost use Rattle.og_par.specs.Limits.{max_workers};
 ghost use Rattle.og_rel.specs.Relations.{relation_at};
 ghost use Rattle.og_join.specs.Joined.{joined};
 
@@ -61,7 +62,7 @@ where
     R::Fixed: Send,
     Q::Key: Sync,
     requires least { 1 ≤ workers }
-    requires most { workers ≤ 64 }
+    requires most { workers ≤ max_workers }
     ensures law { IfOk result (λ r. (d : ℤ) → IsRefDay d → relation_at R.Fixed.cmp R.meaning r d
         ≡ set_of R.Fixed.cmp (joined R.glued (λ x y. eq_by_cmp Q.Key.cmp (Q.left_of keys.now x) (Q.right_of keys.now y) && C.holds cond.now d (R.glued x y))
         (relation_at R.Fixed.cmp R.meaning left.now d) (relation_at R.Fixed.cmp R.meaning right.now d))) }

@@ -1,7 +1,7 @@
 //! Joins: the rows of two relations that can meet on some day, found by their keys or by the spans
 //! of their days.
 //!
-//! On every day and for 1 to 64 workers `key_join` has the glued rows whose keys are equal and for
+//! On every day and for each number of workers `key_join` has the glued rows whose keys are equal and for
 //! which a condition holds, and `overlap_join` those for which it holds, where it holds of no two
 //! rows whose spans do not overlap (`joined` and `AreTold` in specs/Joined.antt). Neither has more
 //! rows than the product. `candidates` tells the pairs of places of two rising lists of spans that

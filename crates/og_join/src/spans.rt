@@ -3,6 +3,7 @@ ghost use Rattle.std.specs.Prelude.{◌≡◌, ◌≤◌, ◌*◌, ℤ, IfOk, le
 ghost use Rattle.og_base.specs.Calendar.{IsRefDay};
 ghost use Rattle.og_base.specs.Set.{set_of};
 ghost use Rattle.og_base.specs.declared.range.FixedPeriod.{FixedPeriod};
+ghost use Rattle.og_par.specs.Limits.{max_workers};
 ghost use Rattle.og_rel.specs.Relations.{relation_at};
 ghost use Rattle.og_join.specs.Joined.{joined, AreTold};
 
@@ -59,7 +60,7 @@ pub fn overlap_join<
 where
     R::Fixed: Send,
     requires least { 1 ≤ workers }
-    requires most { workers ≤ 64 }
+    requires most { workers ≤ max_workers }
     requires told { AreTold R.glued R.meaning (C.holds cond.now) (Q.left_of spans.now) (Q.right_of spans.now) left.now right.now }
     ensures law { IfOk result (λ r. (d : ℤ) → IsRefDay d → relation_at R.Fixed.cmp R.meaning r d
         ≡ set_of R.Fixed.cmp (joined R.glued (λ x y. C.holds cond.now d (R.glued x y))

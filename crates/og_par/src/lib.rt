@@ -1,13 +1,13 @@
 //! Work on the items of a slice by several workers.
 //!
 //! `par_rows` gives for each item one list that its `Piece` allows for it, these lists one after
-//! the other in the items' order, for every number of workers from 1 to 64 and every `Gate`
-//! (`MadeOfEach` in specs/Phase.antt). Where a piece allows one list for each item, the whole is
-//! one list for all workers and gates (`one_list_for_all_workers`). A gate is told of each chunk of
-//! items and proves nothing.
+//! the other in the items' order, for every number of workers from 1 to `MAX_WORKERS` and every
+//! `Gate` (`MadeOfEach` in specs/Phase.antt). Where a piece allows one list for each item, the whole
+//! is one list for all workers and gates (`one_list_for_all_workers`). A gate is told of each chunk
+//! of items and proves nothing.
 //!
-//! The one test, in src/phase.rt, shows that a phase runs in more than one thread, which no clause
-//! says.
+//! The two tests, in src/phase.rt, show the order of the items, and that a phase runs in more than
+//! one thread, which no clause says.
 #![tactic(auto)]
 
 mod gate;
@@ -15,5 +15,5 @@ mod phase;
 mod piece;
 
 pub use gate::{Gate, OpenGate};
-pub use phase::{one_list_for_all_workers, par_rows};
+pub use phase::{MAX_WORKERS, one_list_for_all_workers, par_rows};
 pub use piece::Piece;

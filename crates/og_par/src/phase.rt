@@ -1,6 +1,7 @@
 //! A phase: the items of a slice cut into chunks, one for each worker.
 ghost use Rattle.std.specs.Prelude.{◌≡◌, ◌≤◌, ◌<◌, ◌++◌, List, IfOk};
 ghost use Rattle.og_par.specs.Phase.{AllowsOne, MadeOfEach};
+ghost use Rattle.og_par.specs.Limits.{max_workers};
 ghost use Rattle.og_par.specs.Parts.{JoinsAll};
 
 use crate::gate::Gate;
@@ -10,10 +11,13 @@ use std::alloc::Global;
 use std::thread;
 use std::thread::Threads;
 
+/// The most workers of a phase.
+pub const MAX_WORKERS: usize = 64;
+
 /// For each item one list that the piece allows for it, these lists one after the other, in the
 /// order of the items. The items are cut into chunks of their number divided by `workers`, rounded
 /// up, the last one perhaps shorter, which std's `map_chunks` runs; without items there is no chunk
-/// and no call of `enter`. Refused only for want of memory.
+/// and no call of `enter`. `workers` is from 1 to `MAX_WORKERS`. Refused only for want of memory.
 pub fn par_rows<H: Threads + Sync, T: Sync, P: Piece<T> + Sync, G: Gate + Sync>(
     rt: &H,
     alloc: Global,
@@ -25,7 +29,7 @@ pub fn par_rows<H: Threads + Sync, T: Sync, P: Piece<T> + Sync, G: Gate + Sync>(
 where
     P::Out: Send + Drop,
     requires least { 1 ≤ workers }
-    requires most { workers ≤ 64 }
+    requires most { workers ≤ max_workers }
     ensures { IfOk result (λ v. MadeOfEach (P.gives piece.now) items.now v.items) }
 {
     if items.is_empty() {
@@ -161,10 +165,25 @@ mod tests {
     }
 
     #[test]
-    fn two_workers_keep_the_order_of_the_items(rt: HostRuntime) -> Result<(), NoMemory> {
+    fn two_and_the_most_workers_keep_the_order_of_the_items(
+        rt: HostRuntime,
+    ) -> Result<(), NoMemory> {
         let items: [u16; 3] = [1, 2, 3];
-        let made = par_rows(&rt, rt.alloc(), 2, items.as_slice(), &TenTimes, &OpenGate)?;
-        assert_eq!(rt; made.as_slice(), [1, 10, 2, 20, 3, 30].as_slice());
+        for workers in [2, MAX_WORKERS] {
+            let made = par_rows(
+                &rt,
+                rt.alloc(),
+                workers,
+                items.as_slice(),
+                &TenTimes,
+                &OpenGate,
+            )?;
+            assert_eq!(rt;
+                made.as_slice(),
+                [1, 10, 2, 20, 3, 30].as_slice(),
+                "{workers} workers"
+            );
+        }
         Ok(())
     }
 

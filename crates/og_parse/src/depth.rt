@@ -6,22 +6,28 @@ ghost use Rattle.og_parse.specs.Depth as spec;
 
 use og_syntax::{Lexeme, Sort, same_sort};
 
+/// The most parentheses that are open at once, the most words NOT, and the most words UNION, EXCEPT
+/// and INTERSECT together, of a statement.
+pub const MAX_DEPTH: usize = 100;
+
 // Whether the lexemes are too deep.
 #[tactic(auto, unfolding(crate::specs::Depth::is_too_deep))]
 pub fn is_too_deep(lexemes: &[Lexeme]) -> bool
     ensures { result ≡ spec.is_too_deep lexemes.now }
 {
-    is_nested(lexemes) || 100 < count_of_nots(lexemes) || 100 < count_of_set_words(lexemes)
+    is_nested(lexemes)
+        || MAX_DEPTH < count_of_nots(lexemes)
+        || MAX_DEPTH < count_of_set_words(lexemes)
 }
 
-// Whether more than 100 parentheses are open at once.
+// Whether more than `MAX_DEPTH` parentheses are open at once.
 fn is_nested(lexemes: &[Lexeme]) -> bool
     ensures { result ≡ spec.is_nested 0 lexemes.now }
 {
     let mut opened = 0;
     'each: for lexeme in lexemes {
         opened = opened_after(opened, lexeme.sort);
-        if 100 < opened {
+        if MAX_DEPTH < opened {
             return true;
         }
     }
@@ -30,7 +36,7 @@ fn is_nested(lexemes: &[Lexeme]) -> bool
 
 // How many parentheses are open after a lexeme.
 fn opened_after(opened: usize, sort: Sort) -> usize
-    requires { opened ≤ 100 }
+    requires { opened ≤ spec.max_depth }
     ensures { result ≡ spec.opened_after opened sort }
 {
     match sort {

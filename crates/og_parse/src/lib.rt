@@ -26,6 +26,7 @@ mod refusal;
 mod statement;
 mod tuples;
 
+pub use depth::MAX_DEPTH;
 pub use laws::{one_tree, strict_is_lenient, tree_or_fault};
 pub use og_syntax::{
     CondText, CoreText, ExprText, FromText, ItemText, ItemsText, QueryText, RestText, Script,

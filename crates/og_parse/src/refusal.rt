@@ -12,8 +12,8 @@ pub enum ParseRefusal {
     /// The tokens are no statement.
     #[error("syntax of statement {statement}")]
     Syntax { statement: usize },
-    /// More than 100 parentheses are open at once, or there are more than 100 words NOT, or more
-    /// than 100 words UNION, EXCEPT and INTERSECT together.
+    /// More than `MAX_DEPTH` parentheses are open at once, or there are more than so many words NOT,
+    /// or words UNION, EXCEPT and INTERSECT together.
     #[error("statement {statement} is too deep")]
     TooDeep { statement: usize },
     /// A quoted text is not of its form, and else the tokens are a statement.

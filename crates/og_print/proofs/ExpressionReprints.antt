@@ -24,7 +24,8 @@ use Rattle.og_print.specs.Words.{Word, Plain, Named, Whole, Quoted, enclosed}
 use Rattle.og_print.specs.Expressions.{lit_words, func_sort, expr_words}
 use Rattle.og_print.proofs.Spelling.{SpellAll, AreProper, IsProper, is_inner}
 use Rattle.og_print.proofs.Depths.{number_of, IsNoDeeper}
-use Rattle.og_print.proofs.Names.{folded-word, folded-folded, folded-sort}
+use Rattle.og_value.proofs.WordLemmas.{folded-word, folded-folded}
+use Rattle.og_print.proofs.Names.{folded-sort}
 use Rattle.og_print.proofs.Nesting.{low, neither, no_deeper-same}
 use Rattle.og_print.proofs.TextsAgain.{fixed_again, point_again, period_again}
 use Rattle.og_print.proofs.TreeWords.{expr_words-Column, expr_words-Lit, expr_words-Call}

@@ -2,7 +2,7 @@
 //!
 //! A `Rel` is the list of its rows with their days, of which none has no day. On a day it is the
 //! rising list of the rows that are present, each once (`relation_at` in specs/Relations.antt):
-//! `at` makes it alone, `at_workers` by 1 to 64 workers. `push` and `append` add their rows or
+//! `at` makes it alone, `at_workers` by several workers. `push` and `append` add their rows or
 //! change nothing, and `copy` equals its source. specs/Algebra.antt has UNION, EXCEPT and INTERSECT
 //! of sets of rows of one day. The trait `Tables` tells the relation of each name.
 //!

@@ -2,6 +2,7 @@
 ghost use Rattle.std.specs.Prelude.{◌≡◌, ◌++◌, ◌<◌, ◌≤◌, List, [], ◌∷◌, IfOk, OnOk, OnErr, length, slice_index_or};
 ghost use Rattle.std.specs.List.{All};
 ghost use Rattle.og_base.specs.Ranges.{Range};
+ghost use Rattle.og_par.specs.Limits.{max_workers};
 ghost use Rattle.og_rel.specs.Relations.{HasDays, relation_at, stored};
 
 use crate::blocks::{AtDay, blocks_of};
@@ -127,8 +128,8 @@ impl<R: OngoingRow> Rel<R> {
         rising_rows(rows)
     }
 
-    /// The list of `at`, made by several workers: each makes the lists of some blocks of rows.
-    /// Refused only for want of memory.
+    /// The list of `at`, made by 1 to `MAX_WORKERS` workers of og_par: each makes the lists of some
+    /// blocks of rows. Refused only for want of memory.
     pub fn at_workers<H: Threads + Sync, G: Gate + Sync>(
         &self,
         rt: &H,
@@ -140,7 +141,7 @@ impl<R: OngoingRow> Rel<R> {
         R: Sync,
         R::Fixed: Send,
         requires least { 1 ≤ workers }
-        requires most { workers ≤ 64 }
+        requires most { workers ≤ max_workers }
         ensures { IfOk result (λ rows. rows.items ≡ relation_at R.Fixed.cmp R.meaning self.now d) }
     {
         let alloc = *self.pairs.allocator();

@@ -3,6 +3,7 @@ pub mod Exact
 pub mod GroupLaws
 pub mod Groups
 pub mod Held
+pub mod Limits
 pub mod Order
 pub mod Schemas
 pub mod Steady

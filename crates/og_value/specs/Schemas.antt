@@ -1,7 +1,8 @@
 -- Schemas.
 use Rattle.std.specs.Prelude.{◌≤◌, List, length}
+use Rattle.og_value.specs.Limits.{max_columns}
 
--- from 1 to 64 columns
+-- one column or more, and no more than there may be
 pub record IsSchema {C : Type 0} (columns : List C) : Type 0 where
   pub some : 1 ≤ length columns
-  pub most : length columns ≤ 64
+  pub most : length columns ≤ max_columns

@@ -5,7 +5,7 @@
 //! specs/Order.antt, which ties only rows that are the same (`order_of_rows`). Cells are read
 //! exactly where they are such, with their value, and written as the one text of it (`read_cell`,
 //! `write_cell`, `write_fixed`; specs/Cells.antt). A `Text` is UTF-8, a `Name` is a word in lower
-//! case, a `Schema` has 1 to 64 columns. The trait `Catalog` tells what each name stands for.
+//! case, a `Schema` has 1 to `MAX_COLUMNS` columns. The trait `Catalog` tells what each name stands for.
 //!
 //! No tests here: those of single cells and of rows stand in og_samples, and what scripts reach is
 //! tested by the cases.
@@ -29,7 +29,7 @@ pub use cell::{CellRefusal, one_text_a_cell, read_cell, write_cell, write_fixed}
 pub use kind::{Kind, What};
 pub use name::{Name, NameRefusal};
 pub use row::{FixedRow, Row, order_of_rows};
-pub use schema::{Column, Schema};
+pub use schema::{Column, MAX_COLUMNS, Schema};
 pub use term::{Cmp, Func, Pred, SetOp};
 pub use text::{Text, TextRefusal};
 pub use value::{FixedValue, Value};

@@ -2,7 +2,7 @@
 ghost use Rattle.std.specs.Prelude.{◌≡◌, Err, IfOk, false, true};
 ghost use Rattle.std.specs.List.{list_all};
 ghost use Rattle.og_base.specs.Letters.{begins_word, is_in_word};
-ghost use Rattle.og_value.specs.Words.{is_word, folded};
+ghost use Rattle.og_value.specs.Words.{IsLowerWord, is_word, folded};
 ghost use Rattle.og_value.specs.declared.name.NameRefusal.{NameRefusal};
 
 use og_base::NoMemory;
@@ -41,10 +41,13 @@ pub struct Name {
 
 impl Model for Name {
     ghost use Rattle.std.specs.Prelude.{List, ℕ, string_bytes};
+    ghost use Rattle.og_value.specs.Words.{IsLowerWord};
 
     ghost Value = { List ℕ };
 
     ghost view = { λ n. string_bytes n.text };
+
+    ghost invariant = { λ n. IsLowerWord (string_bytes n.text) };
 }
 
 impl Name {
@@ -63,6 +66,13 @@ impl Name {
         };
         let text = word.to_ascii_lowercase(alloc)?;
         Ok(Name { text })
+    }
+
+    /// A name is a word in lower case.
+    pub fn lower_word(&self)
+        ensures { IsLowerWord self.now }
+    {
+        let _ = &self.text;
     }
 
     /// The name as a string.

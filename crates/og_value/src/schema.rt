@@ -7,6 +7,9 @@ use crate::name::Name;
 use og_base::NoMemory;
 use std::marker::Model;
 
+/// The most columns of a schema.
+pub const MAX_COLUMNS: usize = 64;
+
 /// A column: its name, and the kind of its values.
 #[derive(Debug, PartialEq, Eq, Drop)]
 pub struct Column {
@@ -27,7 +30,7 @@ impl Column {
     }
 }
 
-/// A schema, seen as its 1 to 64 columns. Two columns may have one name.
+/// A schema, seen as its columns, from 1 to `MAX_COLUMNS`. Two columns may have one name.
 #[derive(Debug, PartialEq, Eq, Drop)]
 pub struct Schema {
     columns: Listed<Column>,
@@ -50,7 +53,7 @@ impl Model for Schema {
 impl Schema {
     ghost use Rattle.og_value.specs.Schemas.{IsSchema};
 
-    /// The schema of the columns, of which there are 1 to 64.
+    /// The schema of the columns, of which there are 1 to `MAX_COLUMNS`.
     pub fn of(columns: Vec<Column>) -> Schema
         requires { IsSchema columns.items }
         ensures { result ≡ columns.items }
@@ -60,7 +63,7 @@ impl Schema {
         }
     }
 
-    /// A schema has 1 to 64 columns.
+    /// A schema has 1 to `MAX_COLUMNS` columns.
     pub fn bounded(&self)
         ensures { IsSchema self.now }
     {
