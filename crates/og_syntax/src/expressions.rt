@@ -1,7 +1,8 @@
 //! Expressions.
 ghost use Rattle.std.specs.Prelude.{◌≡◌, ◌&&◌, [], ◌∷◌, drop, Some, IfOk, OnErr};
 ghost use Rattle.og_syntax.specs.Lexemes.{sees};
-ghost use Rattle.og_syntax.specs.Reading.{Gives, pair, single, optional, ◌>>◌, tok};
+ghost use Rattle.og_syntax.specs.Reading.{Gives, bind, pair, single, pure, optional, ◌>>◌, tok};
+ghost use Rattle.og_syntax.specs.declared.tree.ExprText.TheVariants as tree;
 ghost use Rattle.og_syntax.specs.Reader as spec;
 
 use crate::lexeme::{Lexeme, Sort};
@@ -48,29 +49,51 @@ fn expression_in<'a>(
         return column(alloc, script, lexemes);
     }
     if let Some(func) = func_of_two(sort) {
-        let ((left, right), rest) = two_in(alloc, script, strict, after(lexemes), depth - 1)?;
-        let args = list_of_two(alloc, left, right)?;
-        return Ok((ExprText::Call { func, args }, rest));
+        return call_of_two(alloc, script, strict, func, after(lexemes), depth - 1);
     }
     if let Some(func) = func_of_one(sort) {
-        let (only, rest) = one_in(alloc, script, strict, after(lexemes), depth - 1)?;
-        let args = list_of_one(alloc, only)?;
-        return Ok((ExprText::Call { func, args }, rest));
+        return call_of_one(alloc, script, strict, func, after(lexemes), depth - 1);
     }
     if sees(lexemes, Sort::Period) && sees(after(lexemes), Sort::LeftParen) {
         let rest = expect(lexemes, Sort::Period)?;
-        let ((left, right), rest) = two_in(alloc, script, strict, rest, depth - 1)?;
-        let args = list_of_two(alloc, left, right)?;
-        return Ok((
-            ExprText::Call {
-                func: Func::Period,
-                args,
-            },
-            rest,
-        ));
+        return call_of_two(alloc, script, strict, Func::Period, rest, depth - 1);
     }
     let (value, rest) = literal(alloc, script, strict, lexemes)?;
     Ok((ExprText::Lit(value), rest))
+}
+
+// A call with the two expressions in parentheses that come.
+#[cycle(expressions)]
+fn call_of_two<'a>(
+    alloc: Global,
+    script: &[u8],
+    strict: bool,
+    func: Func,
+    lexemes: &'a [Lexeme],
+    depth: usize,
+) -> Result<(ExprText, &'a [Lexeme]), Refusal>
+    ensures { Gives result (bind (pair (spec.expr_in script.now strict depth)) (λ xs. pure (tree.Call func (xs.0 ∷ xs.1 ∷ []))) lexemes.now) }
+{
+    let ((left, right), rest) = two_in(alloc, script, strict, lexemes, depth)?;
+    let args = list_of_two(alloc, left, right)?;
+    Ok((ExprText::Call { func, args }, rest))
+}
+
+// A call with the expression in parentheses that comes.
+#[cycle(expressions)]
+fn call_of_one<'a>(
+    alloc: Global,
+    script: &[u8],
+    strict: bool,
+    func: Func,
+    lexemes: &'a [Lexeme],
+    depth: usize,
+) -> Result<(ExprText, &'a [Lexeme]), Refusal>
+    ensures { Gives result (bind (single (spec.expr_in script.now strict depth)) (λ x. pure (tree.Call func (x ∷ []))) lexemes.now) }
+{
+    let (only, rest) = one_in(alloc, script, strict, lexemes, depth)?;
+    let args = list_of_one(alloc, only)?;
+    Ok((ExprText::Call { func, args }, rest))
 }
 
 // Two expressions in parentheses.
