@@ -1,7 +1,8 @@
--- Rows that are matched: by tests that agree on the members, by a test that no member passes or that all pass, and what each matched row is.
-use Rattle.std.proofs.Common.{◌≡◌, ◌++◌, Bool, true, false, List, [], ◌∷◌, map, filter, if◌then◌else◌, refl, sym, ap, ap₂, ◌∙◌}
-use Rattle.std.specs.List.{All, flat_map}
+-- Rows that are matched: by tests that agree on the members, by a test that no member passes or that all pass, by one test more; and what each matched row is.
+use Rattle.std.proofs.Common.{◌≡◌, ◌++◌, ◌+◌, ◌<◌, ◌&&◌, ℕ, Bool, true, false, List, [], ◌∷◌, length, get_or, take, map, filter, if◌then◌else◌, refl, sym, ap, ap₂, ◌∙◌}
+use Rattle.std.specs.List.{All, flat_map, list_all}
 use Rattle.std.proofs.lemmas.List.Elements.{All-nil, All-head, All-tail, All-append, All-map, All-filter, All-weaker}
+use Rattle.std.proofs.lemmas.List.Folds.{list_all_more}
 use Rattle.og_base.specs.Set.{set_of}
 use Rattle.og_base.proofs.SetLemmas.{All-set_of}
 use Rattle.og_value.specs.Order.{row_order}
@@ -9,7 +10,7 @@ use Rattle.og_query.specs.Queries.{Fixed}
 use Rattle.og_plan.specs.Meaning.{matches}
 
 -- of a test that all pass
-filter-all : {A : Type 0} (xs : List A) → filter (λ _. true) xs ≡ xs
+pub filter-all : {A : Type 0} (xs : List A) → filter (λ _. true) xs ≡ xs
 filter-all [] = refl
 filter-all (x ∷ xs) = ap (λ ys. x ∷ ys) (filter-all xs)
 
@@ -23,6 +24,28 @@ filter-same : {A : Type 0} (p q : A → Bool) (xs : List A) → All (λ x. p x �
 filter-same p q [] same = refl
 filter-same p q (x ∷ xs) same =
     ap₂ (λ b ys. if b then x ∷ ys else ys) (All-head (λ x. p x ≡ q x) x xs same) (filter-same p q xs (All-tail (λ x. p x ≡ q x) x xs same))
+
+-- of what passes another test
+filter-filter : {A : Type 0} (p q : A → Bool) (xs : List A) → filter q (filter p xs) ≡ filter (λ x. p x && q x) xs
+filter-filter p q [] = refl
+filter-filter {A = A} p q (x ∷ xs) = at (p x) (filter-filter p q xs)
+  where
+    both : List A
+    both = filter (λ x. p x && q x) xs
+
+    at : (b : Bool) → filter q (filter p xs) ≡ both → filter q (if b then x ∷ filter p xs else filter p xs) ≡ (if b && q x then x ∷ both else both)
+    at true e = ap (λ ys. if q x then x ∷ ys else ys) e
+    at false e = e
+
+-- of what meets some, those that meet the next meet them all
+pub met_more : {A S : Type 0} (meets : A → S → Bool) (semis : List S) (k : ℕ) (semi : S) (xs old new : List A) → k < length semis → semi ≡ get_or semis k semi
+    → old ≡ filter (λ x. list_all (meets x) (take k semis)) xs → new ≡ filter (λ x. meets x semi) old
+    → new ≡ filter (λ x. list_all (meets x) (take (k + 1) semis)) xs
+met_more meets semis k semi xs old new within is before step =
+    step ∙ ap (filter (λ x. meets x semi)) before
+    ∙ filter-filter (λ x. list_all (meets x) (take k semis)) (λ x. meets x semi) xs
+    ∙ (λ i. filter (λ x. list_all (meets x) (take k semis) && meets x (is i)) xs)
+    ∙ (λ i. filter (λ x. sym (list_all_more (meets x) semis k semi within) i) xs)
 
 -- the pairs that meet, each joined to one row
 abbrev pairs : (Fixed → Fixed → Bool) → List Fixed → List Fixed → List Fixed

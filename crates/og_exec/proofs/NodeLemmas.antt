@@ -1,6 +1,6 @@
 -- What the nodes of a plan ask of their inputs, and their rows and sizes by those of the inputs.
-use Rattle.std.proofs.Common.{◌≡◌, ◌++◌, ◌*◌, ◌≤◌, ◌&&◌, ℕ, ℤ, Bool, true, not, List, [], ◌∷◌, Option, Some, None, length, filter, if◌then◌else◌, refl, sym, ap, ap₂, subst, ◌∙◌, arith}
-use Rattle.std.specs.List.{All, list_all, list_any}
+use Rattle.std.proofs.Common.{◌≡◌, ◌++◌, ◌*◌, ◌≤◌, ◌&&◌, ℕ, ℤ, Bool, true, List, Option, Some, None, length, map, refl, sym, ap, ap₂, subst, ◌∙◌, arith}
+use Rattle.std.specs.List.{All, list_all}
 use Rattle.std.specs.Option.{is_some}
 use Rattle.std.proofs.lemmas.Bool.{and_parts}
 use Rattle.std.proofs.lemmas.List.{length-map}
@@ -12,14 +12,15 @@ use Rattle.og_query.specs.Queries.{Fixed}
 use Rattle.og_query.specs.Sizes.{Sizes}
 use Rattle.og_query.specs.declared.condition.Cond.{Cond}
 use Rattle.og_query.specs.declared.expression.Expr.{Expr}
-use Rattle.og_query.specs.declared.query.From1.{From1}
 use Rattle.og_plan.specs.Meaning.{all_hold, are_equal, matches, node_rows}
+use Rattle.og_plan.specs.Premises.{named_columns}
 use Rattle.og_plan.specs.Shapes.{are_sound, is_key_pair, shape_step, plan_kinds, is_sound, scans_step, scans_of}
 use Rattle.og_plan.specs.Sizes.{plan_size}
 use Rattle.og_plan.specs.declared.plan.ColPair.{ColPair}
 use Rattle.og_plan.specs.declared.plan.Plan.{Plan, fold-Plan}
 use Rattle.og_plan.specs.declared.plan.Plan.TheVariants as p
-use Rattle.og_plan.proofs.PlanEquations.{fold-Filter, fold-Product, fold-KeyJoin, fold-OverlapJoin, fold-Project, fold-Combine, fold-Semi}
+use Rattle.og_plan.specs.declared.plan.PlanSemi.{PlanSemi}
+use Rattle.og_plan.proofs.PlanEquations.{fold-Filter, fold-Product, fold-KeyJoin, fold-OverlapJoin, fold-Project, fold-Combine, fold-Semis}
 use Rattle.og_exec.specs.Keys.{have_one_key}
 use Rattle.og_exec.specs.Tables.{Relation, Relations, rows_on, rows_at, IsThere, AreThere}
 use Rattle.og_exec.proofs.KeyLemmas.{keys_are_columns}
@@ -79,9 +80,9 @@ module _ (plan : Plan) (sound : is_sound plan ≡ true) where
   pub sound_Combine : (op : SetOp) (left right : Plan) → plan ≡ p.Combine op left right → (is_sound left ≡ true) × (is_sound right ≡ true)
   sound_Combine op left right e = and_parts (is_sound left) (is_sound right) (sym (ap (λ s. s.1) (fold-Combine shape_step op left right)) ∙ sym (ap is_sound e) ∙ sound)
 
-  -- of a semi
-  pub sound_Semi : (input : Plan) (positive : Bool) (table : From1) (parts : List Cond) → plan ≡ p.Semi input positive table parts → is_sound input ≡ true
-  sound_Semi input positive table parts e = sym (ap (λ s. s.1) (fold-Semi shape_step input positive table parts)) ∙ sym (ap is_sound e) ∙ sound
+  -- of semis
+  pub sound_Semis : (input : Plan) (semis : List PlanSemi) → plan ≡ p.Semis input semis → is_sound input ≡ true
+  sound_Semis input semis e = sym (ap (λ s. s.1) (fold-Semis shape_step input semis)) ∙ sym (ap is_sound e) ∙ sound
 
 -- the tables of two inputs are there
 abbrev AreBothThere : Relations → Plan → Plan → Type 0
@@ -116,10 +117,10 @@ module _ (named : Relations) (plan : Plan) (there : AreThere named (scans_of pla
   pub there_Combine : (op : SetOp) (left right : Plan) → plan ≡ p.Combine op left right → AreBothThere named left right
   there_Combine op left right e = both_there named left right (subst (AreThere named) (ap scans_of e ∙ fold-Combine scans_step op left right) there)
 
-  -- of a semi
-  pub there_Semi : (input : Plan) (positive : Bool) (table : From1) (parts : List Cond) → plan ≡ p.Semi input positive table parts → AreThere named (scans_of input)
-  there_Semi input positive table parts e =
-      all_first (IsThere named) (scans_of input) ((table.name, table.schema) ∷ []) (subst (AreThere named) (ap scans_of e ∙ fold-Semi scans_step input positive table parts) there)
+  -- of semis
+  pub there_Semis : (input : Plan) (semis : List PlanSemi) → plan ≡ p.Semis input semis → AreThere named (scans_of input)
+  there_Semis input semis e =
+      all_first (IsThere named) (scans_of input) (map (λ semi. named_columns semi.table) semis) (subst (AreThere named) (ap scans_of e ∙ fold-Semis scans_step input semis) there)
 
 module _ (named : Relations) (d : ℤ) where
   -- the rows of a join on keys, by the keys
@@ -160,19 +161,6 @@ module _ (named : Relations) (d : ℤ) where
   of_two f plan left right one other made a b first second is_f same same_other is_a is_b step before before_other =
       step ∙ ap₂ (λ l r. f (rows_on l d) (rows_on r d)) is_a is_b ∙ ap₂ f before before_other
       ∙ ap₂ (λ l r. f (day_rows named d l) (day_rows named d r)) same same_other ∙ sym is_f
-
-  -- the rows of a semi, from the relation that was made of the input's and the table's
-  pub of_semi : (plan input other : Plan) (positive : Bool) (table : From1) (parts : List Cond) (made : List Fixed) (lent answer rel : Relation)
-      → plan ≡ p.Semi input positive table parts → other ≡ input → lent ≡ answer → rows_on rel d ≡ rows_at named d table.name
-      → made ≡ filter (λ row. if positive then list_any (λ y. all_hold d parts (row ++ y)) (rows_on rel d) else not (list_any (λ y. all_hold d parts (row ++ y)) (rows_on rel d))) (rows_on lent d)
-      → rows_on answer d ≡ day_rows named d other → made ≡ day_rows named d plan
-  of_semi plan input other positive table parts made lent answer rel e same is_answer is_table step before =
-      of_one (sifted (rows_at named d table.name)) plan input other made lent answer
-      (ap (day_rows named d) e ∙ fold-Semi (node_rows d (rows_at named d)) input positive table parts) same is_answer
-      (step ∙ ap (λ rows. sifted rows (rows_on lent d)) is_table) before
-    where
-      sifted : List Fixed → List Fixed → List Fixed
-      sifted rows = filter (λ row. if positive then list_any (λ y. all_hold d parts (row ++ y)) rows else not (list_any (λ y. all_hold d parts (row ++ y)) rows))
 
 -- a size that is multiplied
 more_product : (made a b m n size : ℕ) → made ≤ a * b → a ≤ m → b ≤ n → size ≡ m * n → made ≤ size

@@ -20,7 +20,7 @@ use Rattle.og_query.specs.Queries.{Fixed}
 use Rattle.og_plan.specs.Meaning.{all_hold, are_equal, do_overlap, matches, node_rows, plan_rows}
 use Rattle.og_plan.specs.Shapes.{both_kinds, shape_step, plan_kinds, scans_step, scans_of}
 use Rattle.og_plan.specs.declared.plan.Plan.{Plan, fold-Plan}
-use Rattle.og_plan.proofs.PlanEquations.{induction-Plan, fold-Scan, fold-Filter, fold-Product, fold-KeyJoin, fold-OverlapJoin, fold-Project, fold-Combine, fold-Semi}
+use Rattle.og_plan.proofs.PlanEquations.{induction-Plan, fold-Scan, fold-Filter, fold-Product, fold-KeyJoin, fold-OverlapJoin, fold-Project, fold-Combine, fold-Semis}
 use Rattle.og_exec.specs.Tables.{Relation, Relations, rows_or_none, rows_at, IsThere, AreThere}
 use Rattle.og_exec.proofs.MatchLemmas.{all_matches}
 
@@ -142,7 +142,7 @@ module _ (named : Relations) (d : ℤ) where
       (sym (ap (λ s. s.0) (fold-OverlapJoin shape_step left right pair rest)) ∙ e)))
       (λ input items keep kinds there e. no_kinds kinds (sym (ap (λ s. s.0) (fold-Project shape_step input items)) ∙ e))
       (λ op left right keep_left keep_right kinds there e. no_kinds kinds (sym (ap (λ s. s.0) (fold-Combine shape_step op left right)) ∙ e))
-      (λ input positive table parts keep kinds there e. no_kinds kinds (sym (ap (λ s. s.0) (fold-Semi shape_step input positive table parts)) ∙ e))
+      (λ input semis keep kinds there e. no_kinds kinds (sym (ap (λ s. s.0) (fold-Semis shape_step input semis)) ∙ e))
     where
       no_kinds : {G : Type 0} (kinds : List Kind) → None ≡ Some kinds → G
       no_kinds kinds e = cc

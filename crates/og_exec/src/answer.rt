@@ -1,9 +1,11 @@
 //! Answers, lent or made.
-ghost use Rattle.std.specs.Prelude.{◌≡◌};
+ghost use Rattle.std.specs.Prelude.{◌≡◌, ℤ, length};
 ghost use Rattle.og_exec.specs.Answers.{rel_of};
+ghost use Rattle.og_exec.specs.Tables.{rows_on, rows_or_none, size_or_none};
 
-use og_rel::Rel;
-use og_value::Row;
+use og_rel::{Rel, Tables};
+use og_value::{Name, Row};
+use std::alloc::Global;
 
 // The answer of a plan: the relation of a table, or one that was made.
 #[derive(Drop)]
@@ -21,5 +23,16 @@ impl<'t> Answer<'t> {
             Answer::Lent(rel) => *rel,
             Answer::Made(rel) => rel,
         }
+    }
+}
+
+// The relation of the name, without rows where the name is unknown.
+pub(crate) fn lent<'t, T: Tables<Row>>(alloc: Global, name: &Name, tables: &'t T) -> Answer<'t>
+    ensures law { (d : ℤ) → rows_on (rel_of result) d ≡ rows_or_none (T.named tables.now name.now) d }
+    ensures size { length (rel_of result) ≡ size_or_none (T.named tables.now name.now) }
+{
+    match tables.rel(name.bytes()) {
+        Some(rel) => Answer::Lent(rel),
+        None => Answer::Made(Rel::new(alloc)),
     }
 }

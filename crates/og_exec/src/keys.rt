@@ -1,6 +1,7 @@
 //! The join on columns that are equal.
 ghost use Rattle.std.specs.Prelude.{◌≡◌, ◌≤◌, ◌*◌, ◌++◌, ◌&&◌, ℤ, IfOk, length};
 ghost use Rattle.og_base.specs.Calendar.{IsRefDay};
+ghost use Rattle.og_par.specs.Limits.{max_workers};
 ghost use Rattle.og_value.specs.Values.{row_at, value_at};
 ghost use Rattle.og_plan.specs.Meaning.{all_hold, column, matches};
 ghost use Rattle.og_exec.specs.Keys as meant;
@@ -99,7 +100,7 @@ pub(crate) fn key_joined<H: Threads + Sync, G: Gate + Sync>(
     gate: &G,
 ) -> Result<Rel<Row>, NoMemory>
     requires least { 1 ≤ workers }
-    requires most { workers ≤ 64 }
+    requires most { workers ≤ max_workers }
     ensures law { IfOk result (λ r. (d : ℤ) → IsRefDay d → rows_on r d
         ≡ matches (λ x y. meant.have_one_key pairs.now x y && all_hold d rest.now (x ++ y)) (rows_on left.now d) (rows_on right.now d)) }
     ensures size { IfOk result (λ r. length r ≤ length left.now * length right.now) }

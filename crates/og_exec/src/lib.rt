@@ -17,6 +17,7 @@ mod nodes;
 mod overlaps;
 mod run;
 mod semi_keys;
+mod semis;
 mod spans;
 mod widths;
 

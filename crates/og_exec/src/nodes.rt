@@ -1,6 +1,5 @@
-//! The nodes of a plan that filter, multiply or project rows, or look for partners of them.
-ghost use Rattle.std.specs.Prelude.{◌≡◌, ◌≤◌, ◌*◌, ◌++◌, ℤ, true, not, IfOk, length, map, filter, if◌then◌else◌};
-ghost use Rattle.std.specs.List.{list_any};
+//! The nodes of a plan that filter, multiply or project rows.
+ghost use Rattle.std.specs.Prelude.{◌≡◌, ◌≤◌, ◌*◌, ℤ, true, IfOk, length, map, filter};
 ghost use Rattle.og_base.specs.Calendar.{IsRefDay};
 ghost use Rattle.og_base.specs.Set.{set_of};
 ghost use Rattle.og_value.specs.Order.{row_order};
@@ -8,13 +7,11 @@ ghost use Rattle.og_query.specs.Queries.{image};
 ghost use Rattle.og_plan.specs.Meaning.{all_hold, matches};
 ghost use Rattle.og_exec.specs.Tables.{rows_on};
 
-use crate::semi_keys::{EqualColumns, first_width};
 use og_base::NoMemory;
 use og_expr::{ItemMap, PartDays};
 use og_ops::{BinaryOp, Product, Project, Select, UnaryOp};
 use og_query::{Cond, Expr};
 use og_rel::Rel;
-use og_semi::KeyedSemi;
 use og_value::{Row, order_of_rows};
 use sqlite_items::Items;
 use std::alloc::Global;
@@ -62,26 +59,4 @@ pub(crate) fn projected(
         items: items.as_slice(),
     };
     Project { items }.apply(alloc, input)
-}
-
-// The rows for which, glued to some row of the table, all parts hold, where it is positive, and
-// otherwise the others. They are tried with those rows of the table alone that have the same values
-// in the columns which parts say are equal.
-pub(crate) fn semijoined(
-    alloc: Global,
-    input: &Rel<Row>,
-    positive: bool,
-    table: &Rel<Row>,
-    parts: &Items<Cond>,
-) -> Result<Rel<Row>, NoMemory>
-    ensures law { IfOk result (λ r. (d : ℤ) → IsRefDay d → rows_on r d
-        ≡ filter (λ row. if positive then list_any (λ other. all_hold d parts.now (row ++ other)) (rows_on table.now d) else not (list_any (λ other. all_hold d parts.now (row ++ other)) (rows_on table.now d))) (rows_on input.now d)) }
-    ensures size { IfOk result (λ r. length r ≤ length input.now) }
-{
-    order_of_rows();
-    let matching = EqualColumns {
-        parts,
-        width: first_width(input),
-    };
-    KeyedSemi { matching, positive }.apply(alloc, input, table)
 }

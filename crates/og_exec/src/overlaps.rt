@@ -2,6 +2,7 @@
 ghost use Rattle.std.specs.Prelude.{◌≡◌, ◌≤◌, ◌*◌, ◌++◌, ◌&&◌, ◌+◌, ◌<◌, ℤ, true, IfOk, length};
 ghost use Rattle.std.specs.List.{All};
 ghost use Rattle.og_base.specs.Calendar.{IsRefDay};
+ghost use Rattle.og_par.specs.Limits.{max_workers};
 ghost use Rattle.og_plan.specs.Meaning.{all_hold, do_overlap, matches};
 ghost use Rattle.og_exec.specs.Spans.{do_overlap_and};
 ghost use Rattle.og_exec.specs.Tables.{rows_on};
@@ -34,7 +35,7 @@ pub(crate) fn overlap_joined<H: Threads + Sync, G: Gate + Sync>(
     gate: &G,
 ) -> Result<Rel<Row>, NoMemory>
     requires least { 1 ≤ workers }
-    requires most { workers ≤ 64 }
+    requires most { workers ≤ max_workers }
     ensures law { IfOk result (λ r. (d : ℤ) → IsRefDay d → All (λ x. length x ≡ width) (rows_on left.now d) → rows_on r d
         ≡ matches (λ x y. do_overlap x y pair.now && all_hold d rest.now (x ++ y)) (rows_on left.now d) (rows_on right.now d)) }
     ensures size { IfOk result (λ r. length r ≤ length left.now * length right.now) }
@@ -68,7 +69,7 @@ fn columns_joined<H: Threads + Sync, G: Gate + Sync>(
     gate: &G,
 ) -> Result<Rel<Row>, NoMemory>
     requires least { 1 ≤ workers }
-    requires most { workers ≤ 64 }
+    requires most { workers ≤ max_workers }
     requires within { spans.now.pair.now.left < width }
     requires place { place ≡ width + spans.now.pair.now.right }
     requires known { spans.now.known ≡ true → All (λ p. length p.0 ≡ width) left.now }

@@ -1,25 +1,27 @@
 //! The execution of plans.
 ghost use Rattle.std.specs.Prelude.{◌≡◌, ◌≤◌, ℤ, true, IfOk, length};
 ghost use Rattle.og_base.specs.Calendar.{IsRefDay};
+ghost use Rattle.og_par.specs.Limits.{max_workers};
 ghost use Rattle.og_rel.specs.Relations.{relation_at};
 ghost use Rattle.og_value.specs.Values.{row_at};
 ghost use Rattle.og_plan.specs.Meaning.{plan_rows};
 ghost use Rattle.og_plan.specs.Shapes.{is_sound, scans_of};
 ghost use Rattle.og_plan.specs.Sizes.{plan_size};
 ghost use Rattle.og_exec.specs.Answers.{rel_of};
-ghost use Rattle.og_exec.specs.Tables.{AreThere, rows_at, rows_on, rows_or_none, size_or_none, sizes_of};
+ghost use Rattle.og_exec.specs.Tables.{AreThere, rows_at, rows_on, sizes_of};
 
-use crate::answer::Answer;
+use crate::answer::{Answer, lent};
 use crate::combine::combined;
 use crate::keys::key_joined;
-use crate::nodes::{filtered, multiplied, projected, semijoined};
+use crate::nodes::{filtered, multiplied, projected};
 use crate::overlaps::overlap_joined;
+use crate::semis::sifted;
 use crate::widths::width_of;
 use og_base::NoMemory;
 use og_par::Gate;
 use og_plan::Plan;
 use og_rel::{Rel, Tables};
-use og_value::{FixedRow, Name, Row, order_of_rows};
+use og_value::{FixedRow, Row, order_of_rows};
 use std::alloc::Global;
 use std::thread::Threads;
 
@@ -35,7 +37,7 @@ pub fn exec<H: Threads + Sync, T: Tables<Row>, G: Gate + Sync>(
     gate: &G,
 ) -> Result<Rel<Row>, NoMemory>
     requires least { 1 ≤ workers }
-    requires most { workers ≤ 64 }
+    requires most { workers ≤ max_workers }
     requires sound { is_sound plan.now ≡ true }
     requires tables { AreThere (T.named tables.now) (scans_of plan.now) }
     ensures law { IfOk result (λ r. (d : ℤ) → IsRefDay d →
@@ -59,7 +61,7 @@ fn answer_of<'t, H: Threads + Sync, T: Tables<Row>, G: Gate + Sync>(
     gate: &G,
 ) -> Result<Answer<'t>, NoMemory>
     requires least { 1 ≤ workers }
-    requires most { workers ≤ 64 }
+    requires most { workers ≤ max_workers }
     requires sound { is_sound plan.now ≡ true }
     requires tables { AreThere (T.named tables.now) (scans_of plan.now) }
     ensures law { IfOk result (λ a. (d : ℤ) → IsRefDay d → rows_on (rel_of a) d ≡ plan_rows d (rows_at (T.named tables.now) d) plan.now) }
@@ -127,26 +129,9 @@ fn answer_of<'t, H: Threads + Sync, T: Tables<Row>, G: Gate + Sync>(
             let right = answer_of(rt, alloc, right.get(), tables, workers, gate)?;
             Ok(Answer::Made(combined(alloc, *op, left.rel(), right.rel())?))
         }
-        Plan::Semi {
-            input,
-            positive,
-            table,
-            parts,
-        } => {
+        Plan::Semis { input, semis } => {
             let input = answer_of(rt, alloc, input.get(), tables, workers, gate)?;
-            let table = lent(alloc, &table.name, tables);
-            Ok(Answer::Made(semijoined(alloc, input.rel(), *positive, table.rel(), parts)?))
+            sifted(alloc, input, semis.as_slice(), tables)
         }
-    }
-}
-
-// The relation of the name, without rows where the name is unknown.
-fn lent<'t, T: Tables<Row>>(alloc: Global, name: &Name, tables: &'t T) -> Answer<'t>
-    ensures law { (d : ℤ) → rows_on (rel_of result) d ≡ rows_or_none (T.named tables.now name.now) d }
-    ensures size { length (rel_of result) ≡ size_or_none (T.named tables.now name.now) }
-{
-    match tables.rel(name.bytes()) {
-        Some(rel) => Answer::Lent(rel),
-        None => Answer::Made(Rel::new(alloc)),
     }
 }

@@ -19,7 +19,7 @@ pub(crate) fn width_of(plan: &Plan) -> Result<usize, NoMemory>
         Plan::OverlapJoin { left, right, .. } => {
             added(width_of(left.get())?, width_of(right.get())?)
         }
-        Plan::Project { .. } | Plan::Combine { .. } | Plan::Semi { .. } => Ok(0),
+        Plan::Project { .. } | Plan::Combine { .. } | Plan::Semis { .. } => Ok(0),
     }
 }
 

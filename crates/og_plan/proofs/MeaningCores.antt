@@ -3,6 +3,7 @@ use Rattle.std.proofs.Common.{◌≡◌, ◌++◌, ◌+◌, ◌<◌, ◌≤◌, 
 use Rattle.std.specs.List.{AllByRecursion, flat_map, list_all, list_any}
 use Rattle.std.proofs.lemmas.List.{length-append, length-map}
 use Rattle.std.proofs.lemmas.List.Elements.{recursion_from_All}
+use Rattle.std.proofs.lemmas.List.Folds.{list_all-map}
 use Rattle.og_base.proofs.SetMembers.{list_any-map, list_any-filter}
 use Rattle.og_rel.proofs.AlgebraLemmas.{same_set_by_tests}
 use Rattle.og_value.specs.declared.schema.Column.{Column}
@@ -15,15 +16,16 @@ use Rattle.og_query.specs.declared.query.Core.{Core}
 use Rattle.og_query.specs.declared.query.From1.{From1}
 use Rattle.og_query.specs.declared.query.Query.{Query}
 use Rattle.og_query.specs.declared.query.Rest.{Rest}
-use Rattle.og_query.specs.declared.query.Semi.{Semi as OneSemi}
+use Rattle.og_query.specs.declared.query.Semi.{Semi}
 use Rattle.og_query.proofs.QueryLemmas.{rows_ordered}
 use Rattle.og_plan.specs.declared.plan.Plan.{Plan}
-use Rattle.og_plan.specs.declared.plan.Plan.TheVariants.{Combine, Semi}
-use Rattle.og_plan.specs.Meaning.{has_partner, node_rows, plan_rows}
+use Rattle.og_plan.specs.declared.plan.Plan.TheVariants.{Combine}
+use Rattle.og_plan.specs.declared.plan.PlanSemi.{PlanSemi}
+use Rattle.og_plan.specs.Meaning.{meets_semi, node_rows, plan_rows}
 use Rattle.og_plan.specs.Parts.{places_of, parts_of}
-use Rattle.og_plan.specs.PlanOf.{widths_of, tree_of, core_plan, plan_of, HaveTables}
+use Rattle.og_plan.specs.PlanOf.{widths_of, tree_of, semi_plan, sifted, core_plan, plan_of, HaveTables}
 use Rattle.og_plan.specs.Premises.{IsInRange, AreInRange, FitRows, HaveFitRows, AllHaveFitRows}
-use Rattle.og_plan.proofs.PlanEquations.{fold-Project, fold-Combine, fold-Semi}
+use Rattle.og_plan.proofs.PlanEquations.{fold-Project, fold-Combine, fold-Semis}
 use Rattle.og_plan.proofs.MeaningKeys.{and_apart}
 use Rattle.og_plan.proofs.MeaningParts.{parts_told, places_of_parts}
 use Rattle.og_plan.proofs.MeaningHomes.{columns, all_weaker}
@@ -48,26 +50,22 @@ module _ (d : ℤ) (rows : Named) where
       (λ table fit. all_weaker (λ row. map fixed_kind row ≡ kinds_of table.schema) (λ row. length row ≡ length table.schema) (fit_width table.schema) (rows table.name)
       (recursion_from_All (λ row. map fixed_kind row ≡ kinds_of table.schema) (rows table.name) fit))
 
-  -- a row meets a semi where it has a partner, or has none
-  semi_told : (semi : OneSemi) (row : Fixed)
-      → (if semi.positive then has_partner d rows semi.table.name (parts_of semi.cond) row else not (has_partner d rows semi.table.name (parts_of semi.cond) row)) ≡ meets d rows row semi
+  -- a row meets the plan of a semi where it meets the semi
+  semi_told : (semi : Semi) (row : Fixed) → meets_semi d rows row (semi_plan semi) ≡ meets d rows row semi
   semi_told semi row =
       ap (λ b. if semi.positive then b else not b) (λ i. list_any (λ other. parts_told d (row ++ other) semi.cond i) (rows semi.table.name))
 
-  -- the tree under a node for each semi
-  abbrev under : Plan → List OneSemi → Plan
-  under = fold (λ tree semi. Semi tree semi.positive semi.table (parts_of semi.cond))
+  -- and so all of them
+  semis_told : (semis : List Semi) (row : Fixed) → list_all (meets_semi d rows row) (map semi_plan semis) ≡ list_all (meets d rows row) semis
+  semis_told semis row = list_all-map (meets_semi d rows row) semi_plan semis ∙ (λ i. list_all (λ semi. semi_told semi row i) semis)
 
-  -- of some row of the tree under semis: of some row of the tree that meets them all
-  any_under : (t : Fixed → Bool) (semis : List OneSemi) (tree : Plan)
-      → list_any t (plan_rows d rows (under tree semis)) ≡ list_any (λ row. list_all (meets d rows row) semis && t row) (plan_rows d rows tree)
-  any_under t [] tree = refl
-  any_under t (semi ∷ semis) tree =
-      any_under t semis (Semi tree semi.positive semi.table (parts_of semi.cond))
-      ∙ ap (list_any (λ row. list_all (meets d rows row) semis && t row)) (fold-Semi (node_rows d rows) tree semi.positive semi.table (parts_of semi.cond))
-      ∙ list_any-filter (λ row. list_all (meets d rows row) semis && t row)
-      (λ row. if semi.positive then has_partner d rows semi.table.name (parts_of semi.cond) row else not (has_partner d rows semi.table.name (parts_of semi.cond) row)) (plan_rows d rows tree)
-      ∙ (λ i. list_any (λ row. (ap (λ b. b && (list_all (meets d rows row) semis && t row)) (semi_told semi row) ∙ sym (and_apart (meets d rows row semi) (list_all (meets d rows row) semis) (t row))) i) (plan_rows d rows tree))
+  -- of some row of a tree under semis: of some row of the tree that meets them all
+  any_sifted : (t : Fixed → Bool) (tree : Plan) (semis : List PlanSemi)
+      → list_any t (plan_rows d rows (sifted tree semis)) ≡ list_any (λ row. list_all (meets_semi d rows row) semis && t row) (plan_rows d rows tree)
+  any_sifted t tree [] = refl
+  any_sifted t tree (semi ∷ semis) =
+      ap (list_any t) (fold-Semis (node_rows d rows) tree (semi ∷ semis))
+      ∙ list_any-filter t (λ row. list_all (meets_semi d rows row) (semi ∷ semis)) (plan_rows d rows tree)
 
   -- of some row of the tree of a core: of some combination of its tables' rows of which its condition holds
   any_of_core : (t : Fixed → Bool) (core : Core) → 1 ≤ length core.tables → IsInRange core → HaveFitRows rows core
@@ -93,10 +91,12 @@ module _ (d : ℤ) (rows : Named) where
   core_means core some range fit =
       let all = combinations (map (λ table. rows table.name) core.tables) in
       let tree = tree_of (core_kinds core) (widths_of core.tables) (parts_of core.cond) core.tables in
-      fold-Project (node_rows d rows) (under tree core.semis) core.items
-      ∙ same_set_by_tests rows_ordered (map (image d core.items) (plan_rows d rows (under tree core.semis))) (map (image d core.items) (filter (is_kept d rows core) all))
-      (λ t. list_any-map t (image d core.items) (plan_rows d rows (under tree core.semis))
-      ∙ any_under (λ row. t (image d core.items row)) core.semis tree
+      let under = sifted tree (map semi_plan core.semis) in
+      fold-Project (node_rows d rows) under core.items
+      ∙ same_set_by_tests rows_ordered (map (image d core.items) (plan_rows d rows under)) (map (image d core.items) (filter (is_kept d rows core) all))
+      (λ t. list_any-map t (image d core.items) (plan_rows d rows under)
+      ∙ any_sifted (λ row. t (image d core.items row)) tree (map semi_plan core.semis)
+      ∙ (λ i. list_any (λ row. semis_told core.semis row i && t (image d core.items row)) (plan_rows d rows tree))
       ∙ any_of_core (λ row. list_all (meets d rows row) core.semis && t (image d core.items row)) core some range fit
       ∙ (λ i. list_any (λ row. sym (and_apart (truth d row core.cond) (list_all (meets d rows row) core.semis) (t (image d core.items row))) i) all)
       ∙ sym (list_any-filter (λ row. t (image d core.items row)) (is_kept d rows core) all)

@@ -16,7 +16,6 @@ use Rattle.og_query.specs.Expressions.{meaning}
 use Rattle.og_query.specs.Queries.{Fixed}
 use Rattle.og_query.specs.declared.expression.Expr.{Expr}
 use Rattle.og_query.specs.declared.condition.Cond.{Cond}
-use Rattle.og_query.specs.declared.condition.Cond.TheVariants.{Compare, Relate}
 use Rattle.og_query.specs.declared.condition.Cond.TheOpen as c
 use Rattle.og_query.proofs.Equations.{induction-Expr, induction-Cond, fold-Column, fold-Lit, fold-Call, fold-And, fold-Or, fold-Not, fold-Compare, fold-Relate, fold-Empty, fold-Contains, meaning-Column, truth-Compare, truth-Relate}
 use Rattle.og_plan.specs.declared.plan.ColPair.{ColPair}

@@ -1,17 +1,14 @@
 -- The equations of the folds over expressions and conditions that plans need, one for each variant.
-use Rattle.std.proofs.Common.{◌≡◌, ℕ, List, [], ◌∷◌, map, refl, ap, sym, subst, ◌∙◌}
+use Rattle.std.proofs.Common.{◌≡◌, List, [], ◌∷◌, map, refl, ap, ◌∙◌}
 use Rattle.std.specs.List.{AllByRecursion, flat_map}
 use Rattle.std.proofs.lemmas.List.Folds.{flat_map-map}
 use Rattle.og_value.specs.declared.term.Cmp.{Cmp}
 use Rattle.og_value.specs.declared.term.Func.{Func}
 use Rattle.og_value.specs.declared.term.Pred.{Pred}
-use Rattle.og_value.specs.declared.value.Value.{Value}
-use Rattle.og_query.specs.declared.expression.Expr.{Expr, fold-Expr, fold-roll-Expr}
-use Rattle.og_query.specs.declared.expression.Expr.TheVariants.{Column, Lit, Call, rolls-Column, rolls-Lit, rolls-Call}
-use Rattle.og_query.specs.declared.expression.Expr.TheOpen as e
-use Rattle.og_query.specs.declared.condition.Cond.{Cond, fold-Cond, fold-roll-Cond, ind-Cond, map-Cond, roll-Cond}
-use Rattle.og_query.specs.declared.condition.Cond.TheVariants.{And, Or, Not, Compare, Relate, Empty, Contains, rolls-And, rolls-Or, rolls-Not, rolls-Compare, rolls-Relate, rolls-Empty, rolls-Contains}
-use Rattle.og_query.specs.declared.condition.Cond.TheOpen as c
+use Rattle.og_query.specs.declared.expression.Expr.{Expr}
+use Rattle.og_query.specs.declared.expression.Expr.TheVariants.{Call}
+use Rattle.og_query.specs.declared.condition.Cond.{Cond, fold-Cond}
+use Rattle.og_query.specs.declared.condition.Cond.TheVariants.{And, Or, Not, Compare, Relate, Empty, Contains}
 use Rattle.og_query.proofs.Equations.{induction-Cond, fold-Call, fold-And, fold-Or, fold-Not, fold-Compare, fold-Relate, fold-Empty, fold-Contains}
 use Rattle.og_plan.specs.Parts.{parted_step, parts_of, expr_places_step, expr_places, places_step, places_of}
 

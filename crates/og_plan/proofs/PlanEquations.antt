@@ -1,14 +1,14 @@
 -- The equations of folds over plans, one for each variant, and the induction over plans.
-use Rattle.std.proofs.Common.{◌≡◌, ℕ, Bool, List, ap, sym, subst, ◌∙◌}
+use Rattle.std.proofs.Common.{◌≡◌, ℕ, List, ap, sym, subst, ◌∙◌}
 use Rattle.og_value.specs.declared.schema.Column.{Column as OneColumn}
 use Rattle.og_value.specs.declared.term.SetOp.{SetOp}
 use Rattle.og_query.specs.declared.condition.Cond.{Cond}
 use Rattle.og_query.specs.declared.expression.Expr.{Expr}
-use Rattle.og_query.specs.declared.query.From1.{From1}
 use Rattle.og_plan.specs.declared.plan.ColPair.{ColPair}
 use Rattle.og_plan.specs.declared.plan.Plan.{Plan, fold-Plan, fold-roll-Plan, ind-Plan, map-Plan, roll-Plan}
-use Rattle.og_plan.specs.declared.plan.Plan.TheVariants.{Scan, Filter, Product, KeyJoin, OverlapJoin, Project, Combine, Semi, rolls-Scan, rolls-Filter, rolls-Product, rolls-KeyJoin, rolls-OverlapJoin, rolls-Project, rolls-Combine, rolls-Semi}
+use Rattle.og_plan.specs.declared.plan.Plan.TheVariants.{Scan, Filter, Product, KeyJoin, OverlapJoin, Project, Combine, Semis, rolls-Scan, rolls-Filter, rolls-Product, rolls-KeyJoin, rolls-OverlapJoin, rolls-Project, rolls-Combine, rolls-Semis}
 use Rattle.og_plan.specs.declared.plan.Plan.TheOpen as o
+use Rattle.og_plan.specs.declared.plan.PlanSemi.{PlanSemi}
 
 -- a fold over plans
 module _ {A : Type 0} (step : o.Plan-F A → A) where
@@ -42,10 +42,9 @@ module _ {A : Type 0} (step : o.Plan-F A → A) where
   pub fold-Combine : (op : SetOp) (left right : Plan) → fold-Plan A step (Combine op left right) ≡ step (o.Combine op (fold-Plan A step left) (fold-Plan A step right))
   fold-Combine op left right = ap (fold-Plan A step) (sym (rolls-Combine op left right)) ∙ fold-roll-Plan A step (o.Combine op left right)
 
-  -- of a semi
-  pub fold-Semi : (input : Plan) (positive : Bool) (table : From1) (parts : List Cond)
-      → fold-Plan A step (Semi input positive table parts) ≡ step (o.Semi (fold-Plan A step input) positive table parts)
-  fold-Semi input positive table parts = ap (fold-Plan A step) (sym (rolls-Semi input positive table parts)) ∙ fold-roll-Plan A step (o.Semi input positive table parts)
+  -- of semis over an input
+  pub fold-Semis : (input : Plan) (semis : List PlanSemi) → fold-Plan A step (Semis input semis) ≡ step (o.Semis (fold-Plan A step input) semis)
+  fold-Semis input semis = ap (fold-Plan A step) (sym (rolls-Semis input semis)) ∙ fold-roll-Plan A step (o.Semis input semis)
 
 -- induction over plans
 pub induction-Plan : (P : Plan → Type 0)
@@ -56,9 +55,9 @@ pub induction-Plan : (P : Plan → Type 0)
     → ((left right : Plan) (pair : ColPair) (rest : List Cond) → P left → P right → P (OverlapJoin left right pair rest))
     → ((input : Plan) (items : List Expr) → P input → P (Project input items))
     → ((op : SetOp) (left right : Plan) → P left → P right → P (Combine op left right))
-    → ((input : Plan) (positive : Bool) (table : From1) (parts : List Cond) → P input → P (Semi input positive table parts))
+    → ((input : Plan) (semis : List PlanSemi) → P input → P (Semis input semis))
     → (plan : Plan) → P plan
-induction-Plan P scan filter product key_join overlap_join project combine semi = ind-Plan P (λ x y is. subst (λ z. P (roll-Plan z)) is (at y))
+induction-Plan P scan filter product key_join overlap_join project combine semis = ind-Plan P (λ x y is. subst (λ z. P (roll-Plan z)) is (at y))
   where
     at : (y : o.Plan-F ((plan : Plan) × P plan)) → P (roll-Plan (map-Plan ((plan : Plan) × P plan) Plan (λ x. x.0) y))
     at (o.Scan name schema) = subst P (sym (rolls-Scan name schema)) (scan name schema)
@@ -68,4 +67,4 @@ induction-Plan P scan filter product key_join overlap_join project combine semi 
     at (o.OverlapJoin left right pair rest) = subst P (sym (rolls-OverlapJoin left.0 right.0 pair rest)) (overlap_join left.0 right.0 pair rest left.1 right.1)
     at (o.Project input items) = subst P (sym (rolls-Project input.0 items)) (project input.0 items input.1)
     at (o.Combine op left right) = subst P (sym (rolls-Combine op left.0 right.0)) (combine op left.0 right.0 left.1 right.1)
-    at (o.Semi input positive table parts) = subst P (sym (rolls-Semi input.0 positive table parts)) (semi input.0 positive table parts input.1)
+    at (o.Semis input all) = subst P (sym (rolls-Semis input.0 all)) (semis input.0 all input.1)

@@ -10,36 +10,37 @@ use Rattle.og_query.specs.declared.query.Core.{Core}
 use Rattle.og_query.specs.declared.query.From1.{From1}
 use Rattle.og_query.specs.declared.query.Query.{Query}
 use Rattle.og_query.specs.declared.query.Rest.{Rest}
-use Rattle.og_query.specs.declared.query.Semi.{Semi as OneSemi}
 use Rattle.og_plan.specs.Homes.{parts_at}
 use Rattle.og_plan.specs.Joins.{filtered, overlap_joined, key_joined, joined_by, listed, key_of, overlap_of}
 use Rattle.og_plan.specs.Parts.{parts_of, cond_from}
-use Rattle.og_plan.specs.PlanOf.{widths_of, leaf_of, joined_from, tree_of, core_plan, plan_of, HaveTables}
+use Rattle.og_plan.specs.PlanOf.{widths_of, leaf_of, joined_from, tree_of, semi_plan, sifted, core_plan, plan_of, HaveTables}
 use Rattle.og_plan.specs.declared.plan.ColPair.{ColPair}
 use Rattle.og_plan.specs.declared.plan.Home.TheVariants.{Leaf, Join}
 use Rattle.og_plan.specs.declared.plan.Plan.{Plan, fold-Plan}
-use Rattle.og_plan.specs.declared.plan.Plan.TheVariants.{Scan, Product, Combine, Semi}
+use Rattle.og_plan.specs.declared.plan.Plan.TheVariants.{Scan, Product, Combine}
 use Rattle.og_plan.specs.declared.plan.Plan.TheOpen as o
-use Rattle.og_plan.proofs.PlanEquations.{fold-Scan, fold-Filter, fold-Product, fold-KeyJoin, fold-OverlapJoin, fold-Project, fold-Combine, fold-Semi}
+use Rattle.og_plan.specs.declared.plan.PlanSemi.{PlanSemi}
+use Rattle.og_plan.proofs.PlanEquations.{fold-Scan, fold-Filter, fold-Product, fold-KeyJoin, fold-OverlapJoin, fold-Project, fold-Combine, fold-Semis}
 
 -- a fold over plans
 module _ {A : Type 0} (step : o.Plan-F A → A) where
-  -- of a tree under a node for each semi
-  pub fold-semis : (semis : List OneSemi) (tree : Plan)
-      → fold-Plan A step (fold (λ tree semi. Semi tree semi.positive semi.table (parts_of semi.cond)) tree semis)
-      ≡ fold (λ a semi. step (o.Semi a semi.positive semi.table (parts_of semi.cond))) (fold-Plan A step tree) semis
-  fold-semis [] tree = refl
-  fold-semis (semi ∷ semis) tree =
-      fold-semis semis (Semi tree semi.positive semi.table (parts_of semi.cond))
-      ∙ ap (λ a. fold (λ a semi. step (o.Semi a semi.positive semi.table (parts_of semi.cond))) a semis) (fold-Semi step tree semi.positive semi.table (parts_of semi.cond))
+  -- of a tree under semis, from what it makes of the tree
+  abbrev pub over_semis : A → List PlanSemi → A
+  over_semis a [] = a
+  over_semis a (semi ∷ semis) = step (o.Semis a (semi ∷ semis))
 
-  -- of a core: over its semis, from what it makes of the tree
+  fold-sifted : (tree : Plan) (semis : List PlanSemi) → fold-Plan A step (sifted tree semis) ≡ over_semis (fold-Plan A step tree) semis
+  fold-sifted tree [] = refl
+  fold-sifted tree (semi ∷ semis) = fold-Semis step tree (semi ∷ semis)
+
+  -- of a core: of its semis over what it makes of the tree
   pub fold-core_plan : (core : Core) (of_tree : A) → fold-Plan A step (tree_of (core_kinds core) (widths_of core.tables) (parts_of core.cond) core.tables) ≡ of_tree
-      → fold-Plan A step (core_plan core) ≡ step (o.Project (fold (λ a semi. step (o.Semi a semi.positive semi.table (parts_of semi.cond))) of_tree core.semis) core.items)
+      → fold-Plan A step (core_plan core) ≡ step (o.Project (over_semis of_tree (map semi_plan core.semis)) core.items)
   fold-core_plan core of_tree is =
-      fold-Project step (fold (λ tree semi. Semi tree semi.positive semi.table (parts_of semi.cond)) (tree_of (core_kinds core) (widths_of core.tables) (parts_of core.cond) core.tables) core.semis) core.items
-      ∙ ap (λ a. step (o.Project a core.items)) (fold-semis core.semis (tree_of (core_kinds core) (widths_of core.tables) (parts_of core.cond) core.tables)
-      ∙ ap (λ a. fold (λ a semi. step (o.Semi a semi.positive semi.table (parts_of semi.cond))) a core.semis) is)
+      let tree = tree_of (core_kinds core) (widths_of core.tables) (parts_of core.cond) core.tables in
+      let semis = map semi_plan core.semis in
+      fold-Project step (sifted tree semis) core.items
+      ∙ ap (λ a. step (o.Project a core.items)) (fold-sifted tree semis ∙ ap (λ a. over_semis a semis) is)
 
   -- of a plan combined with those of further cores, where what it makes of each core that has a table is known
   module _ (of_core : Core → A) (each : (core : Core) → 1 ≤ length core.tables → fold-Plan A step (core_plan core) ≡ of_core core) where

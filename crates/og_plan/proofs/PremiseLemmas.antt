@@ -1,5 +1,5 @@
 -- A query that fits its tables has what its plan takes for granted.
-use Rattle.std.proofs.Common.{◌≡◌, ◌++◌, ◌<◌, ◌≤◌, ◌&&◌, ℕ, true, List, [], ◌∷◌, Option, Some, None, length, map, refl, sym, subst, ◌∙◌}
+use Rattle.std.proofs.Common.{◌≡◌, ◌++◌, ◌<◌, ◌≤◌, ℕ, true, List, [], ◌∷◌, Option, Some, None, length, map, refl, sym, subst, ◌∙◌}
 use Rattle.std.specs.List.{All, AllByRecursion, flat_map, list_all}
 use Rattle.std.proofs.lemmas.Bool.{and_parts}
 use Rattle.std.proofs.lemmas.List.Elements.{All-from_recursion, All-weaker, All-append, All-map, All-nil, recursion_from_All}

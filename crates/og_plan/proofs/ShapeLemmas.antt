@@ -7,6 +7,7 @@ use Rattle.std.proofs.lemmas.Grind.{flat_map-append}
 use Rattle.std.proofs.lemmas.List.Concat.{flat_map_single}
 use Rattle.std.proofs.lemmas.List.{length-map, map-append}
 use Rattle.og_value.specs.declared.kind.Kind.{Kind}
+use Rattle.og_value.specs.declared.schema.Column.{Column}
 use Rattle.og_query.specs.Fits.{core_kinds}
 use Rattle.og_query.specs.declared.condition.Cond.{Cond}
 use Rattle.og_query.specs.declared.query.Core.{Core}
@@ -18,7 +19,7 @@ use Rattle.og_query.specs.Kinds.{kinds_of}
 use Rattle.og_plan.specs.Homes.{home_of, same_home, parts_at}
 use Rattle.og_plan.specs.Joins.{filtered, overlap_joined, key_joined, joined_by, listed, key_of, overlap_of}
 use Rattle.og_plan.specs.Parts.{parts_of, cond_from, places_of}
-use Rattle.og_plan.specs.PlanOf.{widths_of, leaf_of, joined_from, tree_of, core_plan, plan_of, HaveTables}
+use Rattle.og_plan.specs.PlanOf.{widths_of, leaf_of, joined_from, tree_of, semi_plan, core_plan, plan_of, HaveTables}
 use Rattle.og_plan.specs.Premises.{named_columns, core_tables, query_tables}
 use Rattle.og_plan.specs.Shapes.{shape_step, is_key_pair, is_sound, scans_step, scans_of}
 use Rattle.og_plan.specs.declared.plan.ColPair.{ColPair}
@@ -27,10 +28,11 @@ use Rattle.og_plan.specs.declared.plan.Home.TheVariants.{Leaf, Join}
 use Rattle.og_plan.specs.declared.plan.Plan.{Plan, fold-Plan}
 use Rattle.og_plan.specs.declared.plan.Plan.TheVariants.{Scan, Product}
 use Rattle.og_plan.specs.declared.plan.Plan.TheOpen as o
+use Rattle.og_plan.specs.declared.plan.PlanSemi.{PlanSemi}
 use Rattle.og_plan.proofs.KeyLemmas.{parts_are_keys}
 use Rattle.og_plan.proofs.MeaningHomes.{columns, item_of, places_before}
 use Rattle.og_plan.proofs.PlanEquations.{fold-Scan, fold-Filter, fold-Product, fold-KeyJoin, fold-OverlapJoin}
-use Rattle.og_plan.proofs.PlanFolds.{fold-tree_of, fold-core_plan, fold-plan_of}
+use Rattle.og_plan.proofs.PlanFolds.{over_semis, fold-tree_of, fold-core_plan, fold-plan_of}
 
 -- a plan of scans, filters, products and joins that is made well, whose rows have these kinds
 abbrev HasKinds : List Kind → Plan → Type 0
@@ -157,16 +159,15 @@ tree_has parts (table ∷ tables) some =
     (subst (λ kinds. HasKinds kinds leaf) (sym (append-nil (kinds_of table.schema))) (leaf_has (widths_of (table ∷ tables)) parts 0 0 table))
 
 -- a tree that is made well is so under its semis
-semis_are_sound : (semis : List Semi) (shape : Option (List Kind) × Bool)
-    → (fold (λ shape semi. shape_step (o.Semi shape semi.positive semi.table (parts_of semi.cond))) shape semis).1 ≡ shape.1
+semis_are_sound : (semis : List PlanSemi) (shape : Option (List Kind) × Bool) → (over_semis shape_step shape semis).1 ≡ shape.1
 semis_are_sound [] shape = refl
-semis_are_sound (semi ∷ semis) shape = semis_are_sound semis (None, shape.1)
+semis_are_sound (semi ∷ semis) shape = refl
 
 -- the plan of a core is made well
 core_is_sound : (core : Core) → 1 ≤ length core.tables → fold-Plan (Option (List Kind) × Bool) shape_step (core_plan core) ≡ (None, true)
 core_is_sound core some =
     fold-core_plan shape_step core (Some (core_kinds core), true) (tree_has (parts_of core.cond) core.tables some)
-    ∙ ap (λ well. (None, well)) (semis_are_sound core.semis (Some (core_kinds core), true))
+    ∙ ap (λ well. (None, well)) (semis_are_sound (map semi_plan core.semis) (Some (core_kinds core), true))
 
 -- a plan that is made well is so combined with those of further cores
 rests_are_sound : (rests : List Rest) (shape : Option (List Kind) × Bool) → shape.1 ≡ true
@@ -194,11 +195,20 @@ tree_scans kinds widths parts (table ∷ tables) some =
     fold-tree_of scans_step (λ input parts. refl) (λ left right pairs rest. refl) (λ left right pair rest. refl) kinds widths parts table tables
     ∙ one_of_each named_columns tables (named_columns table ∷ [])
 
+-- the tables of a tree under semis: those of the tree, and then those of the semis
+semis_scans : (semis : List Semi) (tables : List (List ℕ × List Column)) → over_semis scans_step tables (map semi_plan semis) ≡ tables ++ map (λ semi. named_columns semi.table) semis
+semis_scans [] tables = sym (append-nil tables)
+semis_scans (semi ∷ semis) tables = ap (λ more. tables ++ named_columns semi.table ∷ more) (their_tables semis)
+  where
+    their_tables : (semis : List Semi) → map (λ semi. named_columns semi.table) (map semi_plan semis) ≡ map (λ semi. named_columns semi.table) semis
+    their_tables [] = refl
+    their_tables (semi ∷ semis) = ap (λ more. named_columns semi.table ∷ more) (their_tables semis)
+
 -- the tables of a core's plan
 core_scans : (core : Core) → 1 ≤ length core.tables → scans_of (core_plan core) ≡ core_tables core
 core_scans core some =
     fold-core_plan scans_step core (map named_columns core.tables) (tree_scans (core_kinds core) (widths_of core.tables) (parts_of core.cond) core.tables some)
-    ∙ one_of_each (λ semi. named_columns semi.table) core.semis (map named_columns core.tables)
+    ∙ semis_scans core.semis (map named_columns core.tables)
 
 -- the tables of a plan are those of its query
 pub plan_scans : (query : Query) → HaveTables query → scans_of (plan_of query) ≡ query_tables query

@@ -1,17 +1,17 @@
 -- The plan of a query has the size of the query.
-use Rattle.std.proofs.Common.{◌≡◌, ◌*◌, ◌≤◌, ℕ, List, [], ◌∷◌, fold, length, refl, ap, sym, ◌∙◌, arith}
+use Rattle.std.proofs.Common.{◌≡◌, ◌*◌, ◌≤◌, ℕ, List, [], ◌∷◌, fold, length, map, refl, ap, sym, ◌∙◌, arith}
 use Rattle.og_query.specs.Fits.{core_kinds}
 use Rattle.og_query.specs.Sizes.{Sizes, core_size, query_size}
 use Rattle.og_query.specs.declared.condition.Cond.{Cond}
 use Rattle.og_query.specs.declared.query.Core.{Core}
 use Rattle.og_query.specs.declared.query.From1.{From1}
 use Rattle.og_query.specs.declared.query.Query.{Query}
-use Rattle.og_query.specs.declared.query.Semi.{Semi}
 use Rattle.og_value.specs.declared.kind.Kind.{Kind}
 use Rattle.og_plan.specs.Parts.{parts_of}
-use Rattle.og_plan.specs.PlanOf.{widths_of, tree_of, core_plan, plan_of, HaveTables}
+use Rattle.og_plan.specs.PlanOf.{widths_of, tree_of, semi_plan, core_plan, plan_of, HaveTables}
 use Rattle.og_plan.specs.Sizes.{node_size, plan_size}
-use Rattle.og_plan.proofs.PlanFolds.{fold-tree_of, fold-core_plan, fold-plan_of}
+use Rattle.og_plan.specs.declared.plan.PlanSemi.{PlanSemi}
+use Rattle.og_plan.proofs.PlanFolds.{over_semis, fold-tree_of, fold-core_plan, fold-plan_of}
 
 module _ (sizes : Sizes) where
   -- the size of a tree is the product of those of its tables
@@ -26,15 +26,15 @@ module _ (sizes : Sizes) where
       one_times n = omega arith
 
   -- semis keep the size
-  semis_keep_size : (semis : List Semi) (size : ℕ) → fold (λ size semi. size) size semis ≡ size
+  semis_keep_size : (semis : List PlanSemi) (size : ℕ) → over_semis (node_size sizes) size semis ≡ size
   semis_keep_size [] size = refl
-  semis_keep_size (semi ∷ semis) size = semis_keep_size semis size
+  semis_keep_size (semi ∷ semis) size = refl
 
   -- the size of a core's plan is that of the core
   core_plan_keeps_size : (core : Core) → 1 ≤ length core.tables → plan_size sizes (core_plan core) ≡ core_size sizes core
   core_plan_keeps_size core some =
       fold-core_plan (node_size sizes) core (core_size sizes core) (tree_keeps_size (core_kinds core) (widths_of core.tables) (parts_of core.cond) core.tables some)
-      ∙ semis_keep_size core.semis (core_size sizes core)
+      ∙ semis_keep_size (map semi_plan core.semis) (core_size sizes core)
 
 -- the size of a plan is that of its query
 pub plan_keeps_size : (sizes : Sizes) (query : Query) → HaveTables query → plan_size sizes (plan_of query) ≡ query_size sizes query

@@ -7,3 +7,4 @@ pub mod Premises
 pub mod Shapes
 pub mod Sizes
 pub mod Text
+pub mod Words

@@ -10,10 +10,10 @@ use Rattle.og_query.specs.Conditions.{compares, relates, truth}
 use Rattle.og_query.specs.Expressions.{no_value}
 use Rattle.og_query.specs.Queries.{Fixed, Named, image, combined}
 use Rattle.og_query.specs.declared.condition.Cond.{Cond}
-use Rattle.og_query.specs.declared.query.From1.{From1}
 use Rattle.og_plan.specs.declared.plan.ColPair.{ColPair}
 use Rattle.og_plan.specs.declared.plan.Plan.{Plan, fold-Plan}
-use Rattle.og_plan.specs.declared.plan.Plan.TheOpen.{Plan-F, Scan, Filter, Product, KeyJoin, OverlapJoin, Project, Combine, Semi}
+use Rattle.og_plan.specs.declared.plan.Plan.TheOpen.{Plan-F, Scan, Filter, Product, KeyJoin, OverlapJoin, Project, Combine, Semis}
+use Rattle.og_plan.specs.declared.plan.PlanSemi.{PlanSemi}
 
 -- all of the parts hold of the row
 abbrev pub all_hold : ℤ → List Cond → Fixed → Bool
@@ -39,6 +39,10 @@ do_overlap left right pair = relates pred.Overlaps (column left pair.left) (colu
 abbrev pub has_partner : ℤ → Named → List ℕ → List Cond → Fixed → Bool
 has_partner d rows name parts row = list_any (λ other. all_hold d parts (row ++ other)) (rows name)
 
+-- a row meets a positive semi where it has a partner, and a negative one where it has none
+abbrev pub meets_semi : ℤ → Named → Fixed → PlanSemi → Bool
+meets_semi d rows row semi = if semi.positive then has_partner d rows semi.table.name semi.parts row else not (has_partner d rows semi.table.name semi.parts row)
+
 -- one node, with the rows of its inputs in their place
 abbrev pub node_rows : ℤ → Named → Plan-F (List Fixed) → List Fixed
 node_rows d rows (Scan name schema) = rows name
@@ -48,8 +52,7 @@ node_rows d rows (KeyJoin left right pairs rest) = matches (λ l r. list_all (ar
 node_rows d rows (OverlapJoin left right pair rest) = matches (λ l r. do_overlap l r pair && all_hold d rest (l ++ r)) left right
 node_rows d rows (Project input items) = set_of row_order (map (image d items) input)
 node_rows d rows (Combine op left right) = combined op left right
-node_rows d rows (Semi input positive table parts) =
-    filter (λ row. if positive then has_partner d rows table.name parts row else not (has_partner d rows table.name parts row)) input
+node_rows d rows (Semis input semis) = filter (λ row. list_all (meets_semi d rows row) semis) input
 
 -- meaning of a plan
 abbrev pub plan_rows : ℤ → Named → Plan → List Fixed

@@ -7,9 +7,11 @@ use Rattle.og_query.specs.declared.condition.Cond.{Cond}
 use Rattle.og_query.specs.declared.query.From1.{From1}
 use Rattle.og_query.specs.declared.query.Core.{Core}
 use Rattle.og_query.specs.declared.query.Query.{Query}
+use Rattle.og_query.specs.declared.query.Semi.{Semi}
 use Rattle.og_plan.specs.declared.plan.Home.TheVariants.{Leaf, Join}
 use Rattle.og_plan.specs.declared.plan.Plan.{Plan}
 use Rattle.og_plan.specs.declared.plan.Plan.TheVariants as p
+use Rattle.og_plan.specs.declared.plan.PlanSemi.{PlanSemi}
 use Rattle.og_plan.specs.Homes.{parts_at}
 use Rattle.og_plan.specs.Joins.{filtered, joined_by}
 use Rattle.og_plan.specs.Parts.{parts_of, cond_from}
@@ -34,12 +36,19 @@ abbrev pub tree_of : List Kind → List ℕ → List Cond → List From1 → Pla
 tree_of kinds widths parts [] = p.Scan [] []
 tree_of kinds widths parts (table ∷ tables) = joined_from kinds widths parts 1 (length table.schema) (leaf_of widths parts 0 0 table) tables
 
--- a core: its tree, under a node for each semi, the first lowest, under the projection to its items
+-- a semi, with the parts of its condition
+abbrev pub semi_plan : Semi → PlanSemi
+semi_plan semi = record { positive = semi.positive; table = semi.table; parts = parts_of semi.cond }
+
+-- a tree under one node with the semis, where there are any
+abbrev pub sifted : Plan → List PlanSemi → Plan
+sifted tree [] = tree
+sifted tree (semi ∷ semis) = p.Semis tree (semi ∷ semis)
+
+-- a core: its tree, under one node with its semis, under the projection to its items
 abbrev pub core_plan : Core → Plan
 core_plan core =
-    p.Project
-    (fold (λ tree semi. p.Semi tree semi.positive semi.table (parts_of semi.cond)) (tree_of (core_kinds core) (widths_of core.tables) (parts_of core.cond) core.tables) core.semis)
-    core.items
+    p.Project (sifted (tree_of (core_kinds core) (widths_of core.tables) (parts_of core.cond) core.tables) (map semi_plan core.semis)) core.items
 
 -- the plan of a query: those of its cores, combined from the left
 abbrev pub plan_of : Query → Plan

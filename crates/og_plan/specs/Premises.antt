@@ -1,5 +1,5 @@
 -- What is taken for granted of a query and of the rows of its tables, so that its plan means the query.
-use Rattle.std.specs.Prelude.{◌≡◌, ◌<◌, ◌++◌, ℕ, List, ◌∷◌, map, length}
+use Rattle.std.specs.Prelude.{◌≡◌, ◌<◌, ◌++◌, ℕ, List, map, length}
 use Rattle.std.specs.List.{All, flat_map}
 use Rattle.og_value.specs.declared.schema.Column.{Column}
 use Rattle.og_query.specs.Fits.{core_kinds}

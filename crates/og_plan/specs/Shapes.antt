@@ -1,14 +1,15 @@
 -- What a plan takes for granted of its inputs, and which tables it names.
-use Rattle.std.specs.Prelude.{◌&&◌, ◌++◌, ℕ, Bool, true, false, List, [], ◌∷◌, Option, Some, None, slice_get}
+use Rattle.std.specs.Prelude.{◌&&◌, ◌++◌, ℕ, Bool, true, false, List, [], ◌∷◌, Option, Some, None, map, slice_get}
 use Rattle.std.specs.List.{list_all}
 use Rattle.std.specs.Option.{is_some}
 use Rattle.og_value.specs.declared.kind.Kind.{Kind}
 use Rattle.og_value.specs.declared.schema.Column.{Column}
 use Rattle.og_query.specs.Kinds.{kinds_of}
 use Rattle.og_plan.specs.Joins.{are_key_kinds}
+use Rattle.og_plan.specs.Premises.{named_columns}
 use Rattle.og_plan.specs.declared.plan.ColPair.{ColPair}
 use Rattle.og_plan.specs.declared.plan.Plan.{Plan, fold-Plan}
-use Rattle.og_plan.specs.declared.plan.Plan.TheOpen.{Plan-F, Scan, Filter, Product, KeyJoin, OverlapJoin, Project, Combine, Semi}
+use Rattle.og_plan.specs.declared.plan.Plan.TheOpen.{Plan-F, Scan, Filter, Product, KeyJoin, OverlapJoin, Project, Combine, Semis}
 
 -- the kinds of the rows of two inputs, where both have some
 abbrev pub both_kinds : Option (List Kind) → Option (List Kind) → Option (List Kind)
@@ -33,7 +34,7 @@ shape_step (KeyJoin left right pairs rest) = (both_kinds left.0 right.0, are_sou
 shape_step (OverlapJoin left right pair rest) = (both_kinds left.0 right.0, are_sound left right)
 shape_step (Project input items) = (None, input.1)
 shape_step (Combine op left right) = (None, left.1 && right.1)
-shape_step (Semi input positive table parts) = (None, input.1)
+shape_step (Semis input semis) = (None, input.1)
 
 -- the kinds of the rows of a plan, where it is made of scans, filters, products and joins alone
 abbrev pub plan_kinds : Plan → Option (List Kind)
@@ -52,7 +53,7 @@ scans_step (KeyJoin left right pairs rest) = left ++ right
 scans_step (OverlapJoin left right pair rest) = left ++ right
 scans_step (Project input items) = input
 scans_step (Combine op left right) = left ++ right
-scans_step (Semi input positive table parts) = input ++ (table.name, table.schema) ∷ []
+scans_step (Semis input semis) = input ++ map (λ semi. named_columns semi.table) semis
 
 -- the names of a plan and the columns that they have
 abbrev pub scans_of : Plan → List (List ℕ × List Column)

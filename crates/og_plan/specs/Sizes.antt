@@ -2,7 +2,7 @@
 use Rattle.std.specs.Prelude.{◌*◌, ℕ}
 use Rattle.og_query.specs.Sizes.{Sizes, combined_size}
 use Rattle.og_plan.specs.declared.plan.Plan.{Plan, fold-Plan}
-use Rattle.og_plan.specs.declared.plan.Plan.TheOpen.{Plan-F, Scan, Filter, Product, KeyJoin, OverlapJoin, Project, Combine, Semi}
+use Rattle.og_plan.specs.declared.plan.Plan.TheOpen.{Plan-F, Scan, Filter, Product, KeyJoin, OverlapJoin, Project, Combine, Semis}
 
 -- one node, with the sizes of its inputs in their place: products and joins multiply, UNION adds
 abbrev pub node_size : Sizes → Plan-F ℕ → ℕ
@@ -13,7 +13,7 @@ node_size sizes (KeyJoin left right pairs rest) = left * right
 node_size sizes (OverlapJoin left right pair rest) = left * right
 node_size sizes (Project input items) = input
 node_size sizes (Combine op left right) = combined_size op left right
-node_size sizes (Semi input positive table parts) = input
+node_size sizes (Semis input semis) = input
 
 -- size of a plan
 abbrev pub plan_size : Sizes → Plan → ℕ

@@ -1,5 +1,5 @@
 //! The plan of a query: a function of its text alone.
-ghost use Rattle.std.specs.Prelude.{◌≡◌, ◌++◌, ◌+◌, ◌≤◌, ℤ, true, IfOk, OnOk, fold, length};
+ghost use Rattle.std.specs.Prelude.{◌≡◌, ◌++◌, ◌+◌, ◌≤◌, ℤ, true, IfOk, OnOk, length, map};
 ghost use Rattle.std.specs.List.{flat_map};
 ghost use Rattle.og_query.specs.Kinds.{kinds_of};
 ghost use Rattle.og_query.specs.Queries.{Named, ordinary_query};
@@ -8,7 +8,6 @@ ghost use Rattle.og_plan.specs.Meaning.{plan_rows};
 ghost use Rattle.og_plan.specs.Sizes.{plan_size};
 ghost use Rattle.og_plan.specs.Shapes.{is_sound, scans_of};
 ghost use Rattle.og_plan.specs.Premises.{AreInRange, AllHaveFitRows, query_tables};
-ghost use Rattle.og_plan.specs.Parts as parts;
 ghost use Rattle.og_plan.specs.Joins as joins;
 ghost use Rattle.og_plan.specs.Homes as homes;
 ghost use Rattle.og_plan.specs.PlanOf as spec;
@@ -19,7 +18,7 @@ ghost use Rattle.og_plan.specs.declared.plan.Plan.TheVariants as plans;
 use crate::homes::parts_at;
 use crate::joins::{filtered, joined_by};
 use crate::parts::{all_from, parts_of};
-use crate::plan::{Home, Plan};
+use crate::plan::{Home, Plan, PlanSemi};
 use og_base::NoMemory;
 use og_query::{Cond, Core, Expr, From1, Query, Semi, copy_expressions};
 use og_value::{Kind, Schema};
@@ -116,20 +115,40 @@ fn tree_of(
     Ok(tree)
 }
 
-// The tree under a node for each semi, the first lowest.
-fn under_semis(alloc: Global, tree: Plan, semis: &[Semi]) -> Result<Plan, NoMemory>
-    ensures { IfOk result (λ p. p ≡ fold (λ tree semi. plans.Semi tree semi.positive semi.table (parts.parts_of semi.cond)) tree semis.now) }
+// A semi, with the parts of its condition.
+fn semi_plan(alloc: Global, semi: &Semi) -> Result<PlanSemi, NoMemory>
+    ensures { IfOk result (λ planned. planned ≡ spec.semi_plan semi.now) }
 {
-    let mut under = tree;
+    let table = semi.table.copy()?;
+    Ok(PlanSemi {
+        positive: semi.positive,
+        table,
+        parts: parts_of(alloc, &semi.cond)?,
+    })
+}
+
+// The semis, each with the parts of its condition.
+fn semi_plans(alloc: Global, semis: &[Semi]) -> Result<Items<PlanSemi>, NoMemory>
+    ensures { IfOk result (λ planned. planned ≡ map spec.semi_plan semis.now) }
+{
+    let mut planned = Items::new(alloc);
     'semis: for semi in semis {
-        under = Plan::Semi {
-            input: Boxed::new(alloc, under)?,
-            positive: semi.positive,
-            table: semi.table.copy()?,
-            parts: parts_of(alloc, &semi.cond)?,
-        };
+        planned.push(semi_plan(alloc, semi)?)?;
     }
-    Ok(under)
+    Ok(planned)
+}
+
+// The tree under one node with the semis, where there are any.
+fn sifted(alloc: Global, tree: Plan, semis: Items<PlanSemi>) -> Result<Plan, NoMemory>
+    ensures { IfOk result (λ p. p ≡ spec.sifted tree semis) }
+{
+    if semis.is_empty() {
+        return Ok(tree);
+    }
+    Ok(Plan::Semis {
+        input: Boxed::new(alloc, tree)?,
+        semis,
+    })
 }
 
 // The tree under the projection to the items.
@@ -142,7 +161,7 @@ fn projected(alloc: Global, tree: Plan, items: &Items<Expr>) -> Result<Plan, NoM
     })
 }
 
-// A core: its tree, under a node for each semi, under the projection to its items.
+// A core: its tree, under one node with its semis, under the projection to its items.
 fn core_plan(alloc: Global, core: &Core) -> Result<Plan, NoMemory>
     requires { 1 ≤ length core.now.tables }
     ensures { IfOk result (λ p. p ≡ spec.core_plan core.now) }
@@ -151,6 +170,7 @@ fn core_plan(alloc: Global, core: &Core) -> Result<Plan, NoMemory>
     let kinds = kinds_in(alloc, tables)?;
     let widths = widths_of(alloc, tables)?;
     let parts = parts_of(alloc, &core.cond)?;
+    let semis = semi_plans(alloc, core.semis.as_slice())?;
     let tree = tree_of(
         alloc,
         kinds.as_slice(),
@@ -158,7 +178,7 @@ fn core_plan(alloc: Global, core: &Core) -> Result<Plan, NoMemory>
         parts.as_slice(),
         tables,
     )?;
-    let under = under_semis(alloc, tree, core.semis.as_slice())?;
+    let under = sifted(alloc, tree, semis)?;
     projected(alloc, under, &core.items)
 }
 

@@ -4,7 +4,8 @@
 //! has on every day the rows of the query (`plan_rows` in specs/Meaning.antt); it has the size of
 //! the query (specs/Sizes.antt), is made as og_exec asks (`is_sound` in specs/Shapes.antt), and
 //! names the tables of the query. What it asks of a query, each query that fits has
-//! (`fitting_queries`). `explain` gives exactly the text of a plan (specs/Text.antt).
+//! (`fitting_queries`). `explain` gives exactly the text of a plan (specs/Text.antt), and `plan_lines`
+//! its lines, each without the room that its level takes.
 //!
 //! No tests here: the cases test it, and have the texts of plans (docs/CASES.md).
 #![tactic(auto)]
@@ -17,8 +18,9 @@ mod parts;
 mod places;
 mod plan;
 mod text;
+mod words;
 
 pub use cores::plan_of;
 pub use laws::fitting_queries;
-pub use plan::{ColPair, Plan};
-pub use text::explain;
+pub use plan::{ColPair, Plan, PlanSemi};
+pub use text::{PlanLine, explain, plan_lines};

@@ -4,7 +4,7 @@ use og_value::{Name, Schema, SetOp};
 use sqlite_items::{Boxed, Items};
 
 /// How the answer of a query is made. In the conditions of a node a column is its place in the rows of
-/// the node's input: for a join the left row followed by the right one, for a Semi the input's row
+/// the node's input: for a join the left row followed by the right one, for a semi the input's row
 /// followed by the table's.
 #[derive(Drop)]
 pub enum Plan {
@@ -48,13 +48,20 @@ pub enum Plan {
         left: Boxed<Plan>,
         right: Boxed<Plan>,
     },
-    /// The rows that have a match in the table, or, where it is not positive, those that have none.
-    Semi {
+    /// The rows that meet all of the semis.
+    Semis {
         input: Boxed<Plan>,
-        positive: bool,
-        table: From1,
-        parts: Items<Cond>,
+        semis: Items<PlanSemi>,
     },
+}
+
+/// A condition that a row meets where some row of the table, joined after it, makes all of the parts
+/// true, or, where it is not positive, where none does.
+#[derive(Drop)]
+pub struct PlanSemi {
+    pub positive: bool,
+    pub table: From1,
+    pub parts: Items<Cond>,
 }
 
 /// A column of the left row and one of the right, by their places from 0.

@@ -6,7 +6,7 @@ use Rattle.og_plan.specs.Sizes.{node_size, plan_size}
 use Rattle.og_plan.proofs.PlanEquations.{fold-Product, fold-KeyJoin, fold-OverlapJoin}
 use Rattle.og_exec.specs.Keys.{have_one_key}
 use Rattle.og_exec.specs.Tables.{AreThere, rows_at, rows_on, sizes_of}
-use Rattle.og_exec.proofs.NodeLemmas.{sound_Product, sound_KeyJoin, sound_OverlapJoin, sound_Combine, there_Filter, there_Product, there_KeyJoin, there_OverlapJoin, there_Project, there_Combine, there_Semi, rows_KeyJoin, wide_OverlapJoin, of_two, of_semi, size_of_two}
+use Rattle.og_exec.proofs.NodeLemmas.{sound_Product, sound_KeyJoin, sound_OverlapJoin, sound_Combine, there_Filter, there_Product, there_KeyJoin, there_OverlapJoin, there_Project, there_Combine, there_Semis, rows_KeyJoin, wide_OverlapJoin, of_two, size_of_two}
 use Rattle.og_exec.proofs.ShapeLemmas.{day_rows}
 use Rattle.og_exec.proofs.run.+answer_of.Goals as goal
 
@@ -81,10 +81,10 @@ answer_of-requires-in-Combine-2-clause-tables g t c κs within =
     let named = g.T.Tables.named c.args.tables.now in
     subst (λ q. AreThere named (scans_of q)) (sym c.get-in-Combine-2.ensures) ((there_Combine named c.args.plan.now c.requires.tables c.in-Combine.op c.in-Combine.left c.in-Combine.right c.in-Combine.is).1)
 
-pub answer_of-requires-in-Semi-clause-tables : goal.answer_of-requires-in-Semi-clause-tables
-answer_of-requires-in-Semi-clause-tables g t c κs within =
+pub answer_of-requires-in-Semis-clause-tables : goal.answer_of-requires-in-Semis-clause-tables
+answer_of-requires-in-Semis-clause-tables g t c κs within =
     let named = g.T.Tables.named c.args.tables.now in
-    subst (λ q. AreThere named (scans_of q)) (sym c.get-in-Semi.ensures) ((there_Semi named c.args.plan.now c.requires.tables c.in-Semi.input c.in-Semi.positive c.in-Semi.table c.in-Semi.parts c.in-Semi.is))
+    subst (λ q. AreThere named (scans_of q)) (sym c.get-in-Semis.ensures) ((there_Semis named c.args.plan.now c.requires.tables c.in-Semis.input c.in-Semis.semis c.in-Semis.is))
 
 pub returns-in_ok-multiplied-in-Product-clause-size : goal.returns-in_ok-multiplied-in-Product-clause-size
 returns-in_ok-multiplied-in-Product-clause-size g t c =
@@ -128,11 +128,3 @@ returns-in_ok-made-in-OverlapJoin-clause-law g t c d day =
     (ap (day_rows named d) i.is ∙ fold-OverlapJoin (node_rows d (rows_at named d)) i.left i.right i.pair i.rest)
     c.get-in-OverlapJoin-2.ensures c.get-in-OverlapJoin-3.ensures c.rel-in-OverlapJoin.ensures c.rel-in-OverlapJoin-2.ensures
     (c.in_ok-made-in-OverlapJoin.ensures.law d day (subst (All (λ x. length x ≡ width)) (sym same) wide)) left (c.in_ok-right-in-OverlapJoin.ensures.law d day)
-
-pub returns-in_ok-semijoined-in-Semi-clause-law : goal.returns-in_ok-semijoined-in-Semi-clause-law
-returns-in_ok-semijoined-in-Semi-clause-law g t c d day =
-    let named = g.T.Tables.named c.args.tables.now in
-    let i = c.in-Semi in
-    of_semi named d c.args.plan.now i.input c.get-in-Semi.result.now i.positive i.table i.parts _ _ _ c.rel-in-Semi-2.result.now
-    i.is c.get-in-Semi.ensures c.rel-in-Semi.ensures (ap (λ rel. rows_on rel d) c.rel-in-Semi-2.ensures ∙ c.lent-table.ensures.law d)
-    (c.in_ok-semijoined-in-Semi.ensures.law d day) (c.in_ok-input-in-Semi.ensures.law d day)
