@@ -5,6 +5,7 @@ use Rattle.std.proofs.lemmas.List.{map-append}
 use Rattle.std.proofs.lemmas.List.Elements.{All-from_recursion}
 use Rattle.std.proofs.lemmas.List.Folds.{list_all-append}
 use Rattle.std.proofs.lemmas.Grind.{flat_map-append}
+use Rattle.og_value.specs.Limits.{max_columns}
 use Rattle.og_value.specs.declared.kind.Kind.{Kind}
 use Rattle.og_value.specs.declared.schema.Column.{Column}
 use Rattle.og_syntax.specs.declared.tree.FromText.{FromText}
@@ -27,18 +28,15 @@ use Rattle.og_query.specs.declared.query.Core.{Core}
 use Rattle.og_query.specs.declared.query.Rest.{Rest}
 use Rattle.og_query.specs.declared.query.Query.{Query}
 use Rattle.og_query.proofs.Equations.{kind_in-Column, fits-And}
-use Rattle.og_check.specs.declared.tables.Joined.{Joined}
-use Rattle.og_check.specs.Steps.{Checked, ◌>>=◌, ◌>>◌, pure, in_order, in_turn, parted, agree, within}
+use Rattle.og_check.specs.Limits.{max_tables}
+use Rattle.og_check.specs.Steps.{Checked, ◌>>=◌, ◌>>◌, pure, in_order, in_turn, agree, within}
 use Rattle.og_check.specs.Sight.{Item, Sight, Found, joined, found}
 use Rattle.og_check.specs.Expressions.{Kinded, expr_of, conds_of, where_of}
-use Rattle.og_check.specs.Cores.{known_columns, alias_of, unused, sees, sees_sub, no_tables, with_table, from_of, semi_of, item_name, Shown, item_of, items_from, star_from, items_of, schema_of, core_of, rest_of, query_of}
+use Rattle.og_check.specs.Cores.{known_columns, alias_of, unused, sees, sees_sub, From, no_tables, with_table, from_of, semi_of, item_name, Shown, item_of, items_from, star_from, items_of, exprs_of, columns_of, schema_of, core_of, rest_of, query_of}
 use Rattle.og_check.proofs.OkLemmas.{not_ok, ok_same, bind_ok, agree_are, turn_keeps}
+use Rattle.og_check.proofs.Parts.{kind}
 use Rattle.og_check.proofs.SightFits.{found_fits, get_at, all_append}
 use Rattle.og_check.proofs.ExpressionFits.{expr_fits, conds_fit, where_fits}
-
--- the kind of a column
-abbrev kind : Column → Kind
-kind column = column.kind
 
 -- the kinds of a table
 abbrev table_kinds : From1 → List Kind
@@ -63,13 +61,13 @@ in_order_all f P each (x ∷ xs) ys g =
     subst (AllByRecursion P) (ok_same (b.0 ∷ d.0) ys d.2) (each x b.0 b.1, in_order_all f P each xs d.0 d.1)
 
 -- FROM so far fits: its tables have the columns of their names, in the order of its items, and its conditions fit the items, whatever comes after them
-record IsFitFrom (schemas : Schemas) (from : Joined) : Type 0 where
+record IsFitFrom (schemas : Schemas) (from : From) : Type 0 where
   tables : AllByRecursion (IsAsNamed schemas) from.tables
   kinds : flat_map table_kinds from.tables ≡ kinds_of (joined from.items)
   conds : (back : List Kind) → list_all (fits (kinds_of (joined from.items) ++ back)) from.conds ≡ true
 
 -- with a table and its conditions
-abbrev joined_to : Joined → FromText → List Column → List Cond → Joined
+abbrev joined_to : From → FromText → List Column → List Cond → From
 joined_to from t columns conds = record {
   items = from.items ++ (alias_of t.name t.alias, columns) ∷ [];
   tables = from.tables ++ record { name = t.name; schema = columns } ∷ [];
@@ -77,13 +75,13 @@ joined_to from t columns conds = record {
 }
 
 -- what is known of a table that was added
-abbrev IsAdded : Schemas → Joined → FromText → Joined → Type 0
+abbrev IsAdded : Schemas → From → FromText → From → Type 0
 IsAdded schemas from t after =
     (columns : List Column) × (conds : List Cond) × (schemas t.name ≡ Some columns) × (conds_of (sees (from.items ++ (alias_of t.name t.alias, columns) ∷ [])) t.on ≡ Ok conds)
     × (joined_to from t columns conds ≡ after)
 
 -- a table that was added is known, and its conditions were checked
-added : (schemas : Schemas) (from : Joined) (t : FromText) (after : Joined) → with_table schemas from t ≡ Ok after → IsAdded schemas from t after
+added : (schemas : Schemas) (from : From) (t : FromText) (after : From) → with_table schemas from t ≡ Ok after → IsAdded schemas from t after
 added schemas from t after g =
     let alias = alias_of t.name t.alias in
     let a = bind_ok (known_columns t.name (schemas t.name)) (λ xs. do unused alias from.items; conds ← conds_of (sees (from.items ++ (alias, xs) ∷ [])) t.on; pure (joined_to from t xs conds)) after g in
@@ -92,7 +90,7 @@ added schemas from t after g =
     (a.0, d.0, known_are t.name (schemas t.name) a.0 a.1, d.1, ok_same (joined_to from t a.0 d.0) after d.2)
 
 -- FROM with a table and its conditions fits
-joined_fits : (schemas : Schemas) (from : Joined) (t : FromText) (columns : List Column) (conds : List Cond) → schemas t.name ≡ Some columns
+joined_fits : (schemas : Schemas) (from : From) (t : FromText) (columns : List Column) (conds : List Cond) → schemas t.name ≡ Some columns
     → conds_of (sees (from.items ++ (alias_of t.name t.alias, columns) ∷ [])) t.on ≡ Ok conds → IsFitFrom schemas from → IsFitFrom schemas (joined_to from t columns conds)
 joined_fits schemas from t columns conds named g h = record {
   tables = all_append (IsAsNamed schemas) from.tables (record { name = t.name; schema = columns } ∷ []) h.tables (named, tt);
@@ -122,12 +120,12 @@ joined_fits schemas from t columns conds named g h = record {
         list_all-append (fits kinds) from.conds conds ∙ (λ i. earlier back i && later back i)
 
 -- FROM with one more table fits
-with_table_fits : (schemas : Schemas) (from : Joined) (t : FromText) (after : Joined) → with_table schemas from t ≡ Ok after → IsFitFrom schemas from → IsFitFrom schemas after
+with_table_fits : (schemas : Schemas) (from : From) (t : FromText) (after : From) → with_table schemas from t ≡ Ok after → IsFitFrom schemas from → IsFitFrom schemas after
 with_table_fits schemas from t after g h =
     let a = added schemas from t after g in subst (IsFitFrom schemas) a.4 (joined_fits schemas from t a.0 a.1 a.2 a.3 h)
 
 -- FROM with one more table has a table
-some_table : (schemas : Schemas) (from : Joined) (t : FromText) (after : Joined) → with_table schemas from t ≡ Ok after → 1 ≤ length after.tables
+some_table : (schemas : Schemas) (from : From) (t : FromText) (after : From) → with_table schemas from t ≡ Ok after → 1 ≤ length after.tables
 some_table schemas from t after g =
     let a = added schemas from t after g in
     let count = length-append from.tables (record { name = t.name; schema = a.0 } ∷ []) in
@@ -138,11 +136,11 @@ none_fits : (schemas : Schemas) → IsFitFrom schemas no_tables
 none_fits schemas = record { tables = tt; kinds = refl; conds = λ back. refl }
 
 -- FROM that is checked fits
-from_fits : (schemas : Schemas) (ts : List FromText) (from : Joined) → from_of schemas no_tables ts ≡ Ok from → IsFitFrom schemas from
+from_fits : (schemas : Schemas) (ts : List FromText) (from : From) → from_of schemas ts ≡ Ok from → IsFitFrom schemas from
 from_fits schemas ts from g = turn_keeps (IsFitFrom schemas) (with_table schemas) (with_table_fits schemas) no_tables ts from g (none_fits schemas)
 
 -- FROM of some tables has some
-from_some : (schemas : Schemas) (ts : List FromText) (from : Joined) (u : Unit {0}) → within 16 (length ts) ≡ Ok u → from_of schemas no_tables ts ≡ Ok from → 1 ≤ length from.tables
+from_some : (schemas : Schemas) (ts : List FromText) (from : From) (u : Unit {0}) → within max_tables (length ts) ≡ Ok u → from_of schemas ts ≡ Ok from → 1 ≤ length from.tables
 from_some schemas [] from u h g = absurd (not_ok _ u h)
 from_some schemas (t ∷ ts) from u h g =
     let b = bind_ok (with_table schemas no_tables t) (λ after. in_turn (with_table schemas) after ts) from g in
@@ -170,7 +168,7 @@ semi_fits schemas kinds items f s semi g =
 
 -- items that are shown have the kinds of their columns
 abbrev AreShown : List Kind → List Shown → Type 0
-AreShown kinds xs = map (kind_in kinds) (map (λ x. x.0) xs) ≡ map (λ kind. Some kind) (kinds_of (map (λ x. x.1) xs))
+AreShown kinds xs = map (kind_in kinds) (exprs_of xs) ≡ map (λ kind. Some kind) (kinds_of (columns_of xs))
 
 -- an item of an expression and its kind
 abbrev shown_of : ℕ → ItemText → Kinded → Shown
@@ -185,11 +183,11 @@ item_fits sight kinds seen n item x g =
 
 -- the same of a list of items
 items_fit : (sight : Sight) (kinds : List Kind) → ((table : Option (List ℕ)) (name : List ℕ) (x : Found) → found sight table name ≡ Ok x → slice_get kinds x.0 ≡ Some x.1)
-    → (n : ℕ) (items : List ItemText) (xs : List Shown) → items_from sight n items ≡ Ok xs → AreShown kinds xs
+    → (n : ℕ) (items : List ItemText) (xs : List Shown) → in_order (items_from sight n items) ≡ Ok xs → AreShown kinds xs
 items_fit sight kinds seen n [] xs g = subst (AreShown kinds) (ok_same [] xs g) refl
 items_fit sight kinds seen n (item ∷ items) xs g =
-    let b = bind_ok (item_of sight n item) (λ x. do xs ← items_from sight (n + 1) items; pure (x ∷ xs)) xs g in
-    let d = bind_ok (items_from sight (n + 1) items) (λ ys. pure (b.0 ∷ ys)) xs b.2 in
+    let b = bind_ok (item_of sight n item) (λ x. do xs ← in_order (items_from sight (n + 1) items); pure (x ∷ xs)) xs g in
+    let d = bind_ok (in_order (items_from sight (n + 1) items)) (λ ys. pure (b.0 ∷ ys)) xs b.2 in
     subst (AreShown kinds) (ok_same (b.0 ∷ d.0) xs d.2) (λ i. item_fits sight kinds seen n item b.0 b.1 i ∷ items_fit sight kinds seen (n + 1) items d.0 d.1 i)
 
 -- all columns, which stand from a place on, have their kinds
@@ -212,13 +210,13 @@ select_fits kinds items f items_.Star xs g = subst (AreShown kinds) (ok_same (st
 select_fits kinds items f (items_.List list) xs g = items_fit (sees items) kinds (found_fits (sees items) kinds [] f) 1 list xs g
 
 -- what a core is made of
-abbrev made_core : Joined → List Cond → List Semi → List Expr → List Column → Core
+abbrev made_core : From → List Cond → List Semi → List Expr → List Column → Core
 made_core from conds semis items schema = record { tables = from.tables; cond = c.And (from.conds ++ conds); semis = semis; items = items; schema = schema }
 
 -- a core of parts that fit fits
-core_of_parts : (schemas : Schemas) (core : CoreText) (from : Joined) (conds : List Cond) (semis : List Semi) (xs : List Shown) → 1 ≤ length from.tables → IsFitFrom schemas from
+core_of_parts : (schemas : Schemas) (core : CoreText) (from : From) (conds : List Cond) (semis : List Semi) (xs : List Shown) → 1 ≤ length from.tables → IsFitFrom schemas from
     → conds_of (sees from.items) core.cond ≡ Ok conds → in_order (map (semi_of schemas from.items) core.semis) ≡ Ok semis → items_of from.items core.items ≡ Ok xs
-    → IsFitCore schemas (made_core from conds semis (map (λ x. x.0) xs) (map (λ x. x.1) xs))
+    → IsFitCore schemas (made_core from conds semis (exprs_of xs) (columns_of xs))
 core_of_parts schemas core from conds semis xs some h f g k = record {
   some = some;
   tables = All-from_recursion (IsAsNamed schemas) from.tables h.tables;
@@ -243,14 +241,14 @@ core_of_parts schemas core from conds semis xs some h f g k = record {
     earlier = ap (λ ks. list_all (fits ks) from.conds) behind ∙ h.conds []
 
 -- a core with its items, as the checks make it
-abbrev after_semis : CoreText → Joined → List Cond → List Semi → Checked Core
+abbrev after_semis : CoreText → From → List Cond → List Semi → Checked Core
 after_semis text from conds semis = do
-  items ← parted (items_of from.items text.items)
-  schema ← schema_of items.1
-  pure (made_core from conds semis items.0 schema)
+  items ← items_of from.items text.items
+  schema ← schema_of (columns_of items)
+  pure (made_core from conds semis (exprs_of items) schema)
 
 -- a core with its WHERE and what follows it
-abbrev after_from : CoreText → Schemas → Joined → Checked Core
+abbrev after_from : CoreText → Schemas → From → Checked Core
 after_from text schemas from = do
   conds ← conds_of (sees from.items) text.cond
   semis ← in_order (map (semi_of schemas from.items) text.semis)
@@ -258,28 +256,21 @@ after_from text schemas from = do
 
 -- columns that are a schema are its columns
 schema_is : (columns schema : List Column) → schema_of columns ≡ Ok schema → columns ≡ schema
-schema_is columns schema g = let limit = bind_ok (within 64 (length columns)) (λ _. pure columns) schema g in ok_same columns schema limit.2
-
--- items that are parted are both lists
-parted_is : (items : List Item) (list : ItemsText) (both : List Expr × List Column) → parted (items_of items list) ≡ Ok both → (xs : List Shown) × (items_of items list ≡ Ok xs) × ((map (λ x. x.0) xs, map (λ x. x.1) xs) ≡ both)
-parted_is items list both g =
-    let a = bind_ok (items_of items list) (λ zs. pure ([] ++ map (λ x. x.0) zs, [] ++ map (λ x. x.1) zs)) both g in
-    (a.0, a.1, ok_same (map (λ x. x.0) a.0, map (λ x. x.1) a.0) both a.2)
+schema_is columns schema g = let limit = bind_ok (within max_columns (length columns)) (λ _. pure columns) schema g in ok_same columns schema limit.2
 
 -- a core fits where its items are checked after the rest
-semis_fit_core : (schemas : Schemas) (text : CoreText) (core : Core) (from : Joined) (conds : List Cond) (semis : List Semi) → 1 ≤ length from.tables → IsFitFrom schemas from
+semis_fit_core : (schemas : Schemas) (text : CoreText) (core : Core) (from : From) (conds : List Cond) (semis : List Semi) → 1 ≤ length from.tables → IsFitFrom schemas from
     → conds_of (sees from.items) text.cond ≡ Ok conds → in_order (map (semi_of schemas from.items) text.semis) ≡ Ok semis → after_semis text from conds semis ≡ Ok core → IsFitCore schemas core
 semis_fit_core schemas text core from conds semis some h f k g =
-    let both = bind_ok (parted (items_of from.items text.items)) (λ items. do schema ← schema_of items.1; pure (made_core from conds semis items.0 schema)) core g in
-    let schema = bind_ok (schema_of both.0.1) (λ schema. pure (made_core from conds semis both.0.0 schema)) core both.2 in
-    let items = parted_is from.items text.items both.0 both.1 in
-    let made : IsFitCore schemas (made_core from conds semis (map (λ x. x.0) items.0) (map (λ x. x.1) items.0)) = core_of_parts schemas text from conds semis items.0 some h f k items.1 in
-    let named : IsFitCore schemas (made_core from conds semis both.0.0 both.0.1) = subst (λ z. IsFitCore schemas (made_core from conds semis z.0 z.1)) items.2 made in
-    let whole : IsFitCore schemas (made_core from conds semis both.0.0 schema.0) = subst (λ s. IsFitCore schemas (made_core from conds semis both.0.0 s)) (schema_is both.0.1 schema.0 schema.1) named in
-    subst (IsFitCore schemas) (ok_same (made_core from conds semis both.0.0 schema.0) core schema.2) whole
+    let items = bind_ok (items_of from.items text.items) (λ items. do schema ← schema_of (columns_of items); pure (made_core from conds semis (exprs_of items) schema)) core g in
+    let schema = bind_ok (schema_of (columns_of items.0)) (λ schema. pure (made_core from conds semis (exprs_of items.0) schema)) core items.2 in
+    let made : IsFitCore schemas (made_core from conds semis (exprs_of items.0) (columns_of items.0)) = core_of_parts schemas text from conds semis items.0 some h f k items.1 in
+    let whole : IsFitCore schemas (made_core from conds semis (exprs_of items.0) schema.0) =
+    subst (λ s. IsFitCore schemas (made_core from conds semis (exprs_of items.0) s)) (schema_is (columns_of items.0) schema.0 schema.1) made in
+    subst (IsFitCore schemas) (ok_same (made_core from conds semis (exprs_of items.0) schema.0) core schema.2) whole
 
 -- a core fits where WHERE and what follows it are checked after FROM
-from_fit_core : (schemas : Schemas) (text : CoreText) (core : Core) (from : Joined) → 1 ≤ length from.tables → IsFitFrom schemas from → after_from text schemas from ≡ Ok core → IsFitCore schemas core
+from_fit_core : (schemas : Schemas) (text : CoreText) (core : Core) (from : From) → 1 ≤ length from.tables → IsFitFrom schemas from → after_from text schemas from ≡ Ok core → IsFitCore schemas core
 from_fit_core schemas text core from some h g =
     let conds =
     bind_ok (conds_of (sees from.items) text.cond) (λ conds. do semis ← in_order (map (semi_of schemas from.items) text.semis); after_semis text from conds semis) core g in
@@ -289,8 +280,8 @@ from_fit_core schemas text core from some h g =
 -- a SELECT that is checked fits
 pub core_fits : (schemas : Schemas) (text : CoreText) (core : Core) → core_of schemas text ≡ Ok core → IsFitCore schemas core
 core_fits schemas text core g =
-    let count = bind_ok (within 16 (length text.tables)) (λ _. do from ← from_of schemas no_tables text.tables; after_from text schemas from) core g in
-    let from = bind_ok (from_of schemas no_tables text.tables) (after_from text schemas) core count.2 in
+    let count = bind_ok (within max_tables (length text.tables)) (λ _. do from ← from_of schemas text.tables; after_from text schemas from) core g in
+    let from = bind_ok (from_of schemas text.tables) (after_from text schemas) core count.2 in
     from_fit_core schemas text core from.0 (from_some schemas text.tables from.0 count.0 count.1 from.1) (from_fits schemas text.tables from.0 from.1) from.2
 
 -- a further SELECT that is checked fits

@@ -1,5 +1,5 @@
 -- Expressions and conditions that are checked fit the kinds of the columns in sight.
-use Rattle.std.proofs.Common.{◌≡◌, ◌&&◌, ◌++◌, ℕ, true, List, [], ◌∷◌, Option, Some, None, Ok, map, slice_get, refl, ap, sym, subst, ◌∙◌}
+use Rattle.std.proofs.Common.{◌≡◌, ◌&&◌, ℕ, true, List, [], ◌∷◌, Option, Some, None, Ok, map, slice_get, refl, ap, sym, subst, ◌∙◌}
 use Rattle.std.specs.List.{AllByRecursion, list_all}
 use Rattle.og_value.specs.Cells.{kind_of}
 use Rattle.og_value.specs.declared.kind.Kind.{Kind}
@@ -20,7 +20,7 @@ use Rattle.og_query.specs.declared.expression.Expr.TheVariants as e
 use Rattle.og_query.specs.declared.condition.Cond.{Cond}
 use Rattle.og_query.specs.declared.condition.Cond.TheVariants as c
 use Rattle.og_query.proofs.Equations.{kind_in-Column, kind_in-Lit, kind_in-Call, fits-And, fits-Or, fits-Not, fits-Compare, fits-Relate, fits-Empty, fits-Contains}
-use Rattle.og_check.specs.Steps.{◌>>=◌, ◌>>◌, pure, in_order, parted, agree, same_kind}
+use Rattle.og_check.specs.Steps.{◌>>=◌, ◌>>◌, pure, in_order, agree, same_kind}
 use Rattle.og_check.specs.Sight.{Sight, Found, found}
 use Rattle.og_check.specs.Expressions.{Kinded, wanted, given, call_of, expr_of, comparable, cond_of, conds_of, where_of}
 use Rattle.og_check.proofs.ExpressionRules.{expr_of-Column, expr_of-Lit, expr_of-Call, cond_of-And, cond_of-Or, cond_of-Not, cond_of-Compare, cond_of-Relate, cond_of-Empty, cond_of-Contains}
@@ -32,7 +32,7 @@ each_of P [] = tt
 each_of P (x ∷ xs) = (x.1, each_of P xs)
 
 -- induction over expressions as they are written
-induction-ExprText : (P : ExprText → Type 0) → ((table : Option (List ℕ)) (name : List ℕ) → P (x.Column table name)) → ((value : Value) → P (x.Lit value))
+pub induction-ExprText : (P : ExprText → Type 0) → ((table : Option (List ℕ)) (name : List ℕ) → P (x.Column table name)) → ((value : Value) → P (x.Lit value))
     → ((func : Func) (args : List ExprText) → AllByRecursion P args → P (x.Call func args)) → (expr : ExprText) → P expr
 induction-ExprText P column lit call = ind-ExprText P (λ x y is. subst (λ z. P (roll-ExprText z)) is (at y))
   where
@@ -42,7 +42,7 @@ induction-ExprText P column lit call = ind-ExprText P (λ x y is. subst (λ z. P
     at (xo.Call func args) = subst P (sym (x.rolls-Call func (map (λ x. x.0) args))) (call func (map (λ x. x.0) args) (each_of P args))
 
 -- induction over conditions as they are written
-induction-CondText : (P : CondText → Type 0)
+pub induction-CondText : (P : CondText → Type 0)
     → ((parts : List CondText) → AllByRecursion P parts → P (y.And parts)) → ((parts : List CondText) → AllByRecursion P parts → P (y.Or parts)) → ((part : CondText) → P part → P (y.Not part))
     → ((op : Cmp) (left right : ExprText) → P (y.Compare op left right)) → ((pred : Pred) (left right : ExprText) → P (y.Relate pred left right))
     → ((period : ExprText) → P (y.Empty period)) → ((period day : ExprText) → P (y.Contains period day)) → (cond : CondText) → P cond
@@ -90,13 +90,12 @@ module _ (sight : Sight) (kinds : List Kind) (seen : (table : Option (List ℕ))
   -- a call of arguments that fit
   call_fits : (func : Func) (args : List ExprText) → AllByRecursion ExprFits args → ExprFits (x.Call func args)
   call_fits func args all x g =
-      let b = bind_ok (parted (in_order (map (expr_of sight) args))) (λ xs. call_of func xs.0 xs.1) x (sym (expr_of-Call sight func args) ∙ g) in
-      let d = bind_ok (in_order (map (expr_of sight) args)) (λ zs. pure ([] ++ map (λ x. x.0) zs, [] ++ map (λ x. x.1) zs)) b.0 b.1 in
-      let same = bind_ok (agree b.0.1 (wanted func)) (λ _. pure (e.Call func b.0.0, given func)) x b.2 in
-      let known : all_kinds (map (kind_in kinds) b.0.0) ≡ Some b.0.1 =
-      subst (λ y. all_kinds (map (kind_in kinds) y.0) ≡ Some y.1) (ok_same (map (λ x. x.0) d.0, map (λ x. x.1) d.0) b.0 d.2) (args_fit args all d.0 d.1) in
-      subst (λ y. kind_in kinds y.0 ≡ Some y.1) (ok_same (e.Call func b.0.0, given func) x same.2)
-      (kind_in-Call kinds func b.0.0 ∙ ap (call_kind_of func) known ∙ ap (call_kind func) (agree_are b.0.1 (wanted func) same.0 same.1) ∙ given_fits func)
+      let b = bind_ok (in_order (map (expr_of sight) args)) (λ xs. call_of func (map (λ x. x.0) xs) (map (λ x. x.1) xs)) x (sym (expr_of-Call sight func args) ∙ g) in
+      let exprs = map (λ x. x.0) b.0 in
+      let kinds_ = map (λ x. x.1) b.0 in
+      let same = bind_ok (agree kinds_ (wanted func)) (λ _. pure (e.Call func exprs, given func)) x b.2 in
+      subst (λ y. kind_in kinds y.0 ≡ Some y.1) (ok_same (e.Call func exprs, given func) x same.2)
+      (kind_in-Call kinds func exprs ∙ ap (call_kind_of func) (args_fit args all b.0 b.1) ∙ ap (call_kind func) (agree_are kinds_ (wanted func) same.0 same.1) ∙ given_fits func)
 
   -- a column that is found
   column_fits : (table : Option (List ℕ)) (name : List ℕ) → ExprFits (x.Column table name)

@@ -14,7 +14,7 @@ use Rattle.og_syntax.specs.declared.tree.CondText.TheOpen as yo
 use Rattle.og_query.specs.declared.expression.Expr.TheVariants as e
 use Rattle.og_query.specs.declared.condition.Cond.{Cond}
 use Rattle.og_query.specs.declared.condition.Cond.TheVariants as c
-use Rattle.og_check.specs.Steps.{Checked, ◌>>=◌, pure, in_order, parted}
+use Rattle.og_check.specs.Steps.{Checked, ◌>>=◌, pure, in_order}
 use Rattle.og_check.specs.Sight.{Sight, found}
 use Rattle.og_check.specs.Expressions.{Kinded, expr_of, expr_step, call_of, cond_of, cond_step, compare_of, relate_of, empty_of, contains_of}
 
@@ -28,7 +28,7 @@ module _ (sight : Sight) where
   expr_of-Lit value = ap (expr_of sight) (sym (x.rolls-Lit value)) ∙ fold-roll-ExprText (Checked Kinded) (expr_step sight) (xo.Lit value)
 
   -- a call
-  pub expr_of-Call : (func : Func) (args : List ExprText) → expr_of sight (x.Call func args) ≡ (do xs ← parted (in_order (map (expr_of sight) args)); call_of func xs.0 xs.1)
+  pub expr_of-Call : (func : Func) (args : List ExprText) → expr_of sight (x.Call func args) ≡ (do xs ← in_order (map (expr_of sight) args); call_of func (map (λ x. x.0) xs) (map (λ x. x.1) xs))
   expr_of-Call func args = ap (expr_of sight) (sym (x.rolls-Call func args)) ∙ fold-roll-ExprText (Checked Kinded) (expr_step sight) (xo.Call func args)
 
   -- AND

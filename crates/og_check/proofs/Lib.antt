@@ -1,6 +1,7 @@
 pub mod CoreFits
 pub mod ExpressionFits
 pub mod ExpressionRules
+pub mod FaultLemmas
 pub mod HitLemmas
 pub mod NumberLemmas
 pub mod OkLemmas

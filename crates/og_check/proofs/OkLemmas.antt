@@ -1,9 +1,10 @@
 -- What is known where checks find no fault.
 use Rattle.std.proofs.Common.{◌≡◌, ◌==◌, ℕ, suc, Bool, true, false, List, [], ◌∷◌, Ok, Err, length, refl, ap, sym, subst, true≢false, eqb-true, arith}
+use Rattle.std.specs.List.{AllByRecursion}
 use Rattle.og_value.specs.declared.kind.Kind.{Kind}
 use Rattle.og_value.specs.declared.kind.Kind.TheVariants as k
 use Rattle.og_check.specs.declared.refusal.CheckRefusal.{CheckRefusal}
-use Rattle.og_check.specs.Steps.{Checked, ◌>>=◌, unless, is_kind, same_kind, same_kinds, same_count, agree, in_turn}
+use Rattle.og_check.specs.Steps.{Checked, ◌>>=◌, unless, is_kind, same_kind, same_kinds, same_count, agree, in_turn, on_each}
 
 -- whether there is a value
 abbrev is_ok : {A : Type 0} → Checked A → Bool
@@ -82,3 +83,10 @@ pub turn_keeps : {S A : Type 0} (P : S → Type 0) (step : S → A → Checked S
 turn_keeps P step keeps s [] t e h = subst P (ok_same s t e) h
 turn_keeps P step keeps s (x ∷ xs) t e h =
     let b = bind_ok (step s x) (λ after. in_turn step after xs) t e in turn_keeps P step keeps b.0 xs t b.2 (keeps s x b.0 b.1 h)
+
+-- what has no fault of a check that says it holds of each
+pub on_each_all : {A : Type 0} (check : A → Checked (Unit {0})) (P : A → Type 0) → ((x : A) (u : Unit {0}) → check x ≡ Ok u → P x)
+    → (xs : List A) (u : Unit {0}) → on_each check xs ≡ Ok u → AllByRecursion P xs
+on_each_all check P each [] u g = tt
+on_each_all check P each (x ∷ xs) u g =
+    let b = bind_ok (check x) (λ after. in_turn (λ _ y. check y) after xs) u g in (each x b.0 b.1, on_each_all check P each xs u b.2)

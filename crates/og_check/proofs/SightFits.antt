@@ -8,10 +8,7 @@ use Rattle.og_value.specs.declared.schema.Column.{Column}
 use Rattle.og_query.specs.Kinds.{kinds_of}
 use Rattle.og_check.specs.Sight.{Item, Sight, Found, joined, named, looks_at, among, or_else, one_of, written, candidates, found}
 use Rattle.og_check.proofs.OkLemmas.{not_ok, ok_same}
-
--- the kind of a column
-abbrev kind : Column → Kind
-kind column = column.kind
+use Rattle.og_check.proofs.Parts.{kind}
 
 -- the found kind stands at the found place
 abbrev pub IsIn : List Kind → Found → Type 0

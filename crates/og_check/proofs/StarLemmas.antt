@@ -1,24 +1,17 @@
 -- The items of SELECT, one after the other.
-use Rattle.std.proofs.Common.{◌≡◌, ◌+◌, ◌++◌, ◌<◌, ◌≤◌, ℕ, suc, List, [], ◌∷◌, Ok, Err, map, length, drop, get_or, refl, ap, sym, ◌∙◌, append_assoc, length-append, arith}
+use Rattle.std.proofs.Common.{◌≡◌, ◌+◌, ◌++◌, ◌<◌, ◌≤◌, ℕ, suc, List, [], ◌∷◌, Ok, Err, length, drop, get_or, refl, ap, sym, ◌∙◌, append_assoc, length-append, arith}
 use Rattle.std.proofs.lemmas.List.{map-append, drop_all}
 use Rattle.og_value.specs.declared.schema.Column.{Column}
 use Rattle.og_syntax.specs.declared.tree.ItemText.{ItemText}
 use Rattle.og_query.specs.declared.expression.Expr.{Expr}
 use Rattle.og_query.specs.declared.expression.Expr.TheVariants as e
 use Rattle.og_check.specs.declared.refusal.CheckRefusal.{CheckRefusal}
-use Rattle.og_check.specs.Steps.{Checked, ◌>>=◌, pure, with_fronts}
+use Rattle.og_check.specs.Fronts.{with_fronts}
+use Rattle.og_check.specs.Steps.{Checked, ◌>>=◌, pure, in_order}
 use Rattle.og_check.specs.Sight.{Sight}
-use Rattle.og_check.specs.Cores.{Shown, star_from, item_of, items_from}
+use Rattle.og_check.specs.Cores.{Shown, star_from, item_of, items_from, exprs_of, columns_of}
 use Rattle.og_check.proofs.Parts.{left}
 use Rattle.og_check.proofs.StepLemmas.{fronts-more, fronts-done}
-
--- the expressions of what is shown
-abbrev exprs : List Shown → List Expr
-exprs xs = map (λ x. x.0) xs
-
--- the columns of what is shown
-abbrev columns : List Shown → List Column
-columns xs = map (λ x. x.1) xs
 
 -- both columns and those after them
 star_from-append : (place : ℕ) (cs ds : List Column) → star_from place (cs ++ ds) ≡ star_from place cs ++ star_from (place + length cs) ds
@@ -31,21 +24,21 @@ length-star_from place [] = refl
 length-star_from place (c ∷ cs) = ap (λ k. suc k) (length-star_from (place + 1) cs)
 
 -- as many expressions
-count_of : (xs : List Shown) → length (exprs xs) ≡ length xs
+count_of : (xs : List Shown) → length (exprs_of xs) ≡ length xs
 count_of [] = refl
 count_of (x ∷ xs) = ap (λ k. suc k) (count_of xs)
 
 -- with these columns, those after them are left
 fronts-star : (xs : List Expr) (ys : List Column) (cs ds : List Column)
-    → with_fronts (xs ++ exprs (star_from (length xs) cs)) (ys ++ columns (star_from (length xs) cs)) (pure (star_from (length (xs ++ exprs (star_from (length xs) cs))) ds))
+    → with_fronts (xs ++ exprs_of (star_from (length xs) cs)) (ys ++ columns_of (star_from (length xs) cs)) (pure (star_from (length (xs ++ exprs_of (star_from (length xs) cs))) ds))
     ≡ with_fronts xs ys (pure (star_from (length xs) (cs ++ ds)))
 fronts-star xs ys cs ds =
     let s = star_from (length xs) cs in
-    let count : length (xs ++ exprs s) ≡ length xs + length cs =
-    length-append xs (exprs s) ∙ ap (λ k. length xs + k) (count_of s ∙ length-star_from (length xs) cs) in
+    let count : length (xs ++ exprs_of s) ≡ length xs + length cs =
+    length-append xs (exprs_of s) ∙ ap (λ k. length xs + k) (count_of s ∙ length-star_from (length xs) cs) in
     let t = star_from (length xs + length cs) ds in
-    ap (λ k. with_fronts (xs ++ exprs s) (ys ++ columns s) (pure (star_from k ds))) count
-    ∙ (λ i. Ok (append_assoc xs (exprs s) (exprs t) i, append_assoc ys (columns s) (columns t) i))
+    ap (λ k. with_fronts (xs ++ exprs_of s) (ys ++ columns_of s) (pure (star_from k ds))) count
+    ∙ (λ i. Ok (append_assoc xs (exprs_of s) (exprs_of t) i, append_assoc ys (columns_of s) (columns_of t) i))
     ∙ (λ i. Ok (xs ++ sym (map-append (λ x. x.0) s t) i, ys ++ sym (map-append (λ x. x.1) s t) i))
     ∙ ap (λ zs. with_fronts xs ys (pure zs)) (sym (star_from-append (length xs) cs ds))
 
@@ -66,27 +59,27 @@ pub star_next : (xs : List Expr) (ys : List Column) (cs ds zs : List Column) (xs
 star_next xs ys cs ds zs xs1 ys1 f g =
     (λ i. with_fronts (first i) (second i) (pure (star_from (length (first i)) ds))) ∙ fronts-star xs ys cs ds ∙ ap (λ k. with_fronts xs ys (pure (star_from (length xs) k))) (sym f)
   where
-    first : xs1 ≡ xs ++ exprs (star_from (length xs) cs)
+    first : xs1 ≡ xs ++ exprs_of (star_from (length xs) cs)
     first = ap first_of (sym g)
 
-    second : ys1 ≡ ys ++ columns (star_from (length xs) cs)
+    second : ys1 ≡ ys ++ columns_of (star_from (length xs) cs)
     second = ap second_of (sym g)
 
 -- with the item at a place, those after it are left
 pub items_next : (sight : Sight) (xs : List Expr) (ys : List Column) (list : List ItemText) (i : ℕ) (x : ItemText) (y : Shown) → i < length list → x ≡ get_or list i x → item_of sight (i + 1) x ≡ Ok y
-    → with_fronts (xs ++ y.0 ∷ []) (ys ++ y.1 ∷ []) (items_from sight (i + 1 + 1) (drop (i + 1) list)) ≡ with_fronts xs ys (items_from sight (i + 1) (drop i list))
+    → with_fronts (xs ++ y.0 ∷ []) (ys ++ y.1 ∷ []) (in_order (items_from sight (i + 1 + 1) (drop (i + 1) list))) ≡ with_fronts xs ys (in_order (items_from sight (i + 1) (drop i list)))
 items_next sight xs ys list i x y h e g =
-    sym (fronts-more xs ys y (items_from sight (i + 1 + 1) (drop (i + 1) list)))
-    ∙ ap (λ p. with_fronts xs ys (do y ← p; zs ← items_from sight (i + 1 + 1) (drop (i + 1) list); pure (y ∷ zs))) (sym g)
-    ∙ ap (λ zs. with_fronts xs ys (items_from sight (i + 1) zs)) (sym (left list i x h e))
+    sym (fronts-more xs ys y (in_order (items_from sight (i + 1 + 1) (drop (i + 1) list))))
+    ∙ ap (λ p. with_fronts xs ys (do y ← p; zs ← in_order (items_from sight (i + 1 + 1) (drop (i + 1) list)); pure (y ∷ zs))) (sym g)
+    ∙ ap (λ zs. with_fronts xs ys (in_order (items_from sight (i + 1) zs))) (sym (left list i x h e))
 
 -- a fault, and the rest is not looked at
 pub items_stop : (sight : Sight) (xs : List Expr) (ys : List Column) (list : List ItemText) (i : ℕ) (x : ItemText) (fault : CheckRefusal) → i < length list → x ≡ get_or list i x → item_of sight (i + 1) x ≡ Err fault
-    → with_fronts xs ys (items_from sight (i + 1) (drop i list)) ≡ Err fault
+    → with_fronts xs ys (in_order (items_from sight (i + 1) (drop i list))) ≡ Err fault
 items_stop sight xs ys list i x fault h e g =
-    ap (λ zs. with_fronts xs ys (items_from sight (i + 1) zs)) (left list i x h e)
-    ∙ ap (λ p. with_fronts xs ys (do y ← p; zs ← items_from sight (i + 1 + 1) (drop (i + 1) list); pure (y ∷ zs))) g
+    ap (λ zs. with_fronts xs ys (in_order (items_from sight (i + 1) zs))) (left list i x h e)
+    ∙ ap (λ p. with_fronts xs ys (do y ← p; zs ← in_order (items_from sight (i + 1 + 1) (drop (i + 1) list)); pure (y ∷ zs))) g
 
 -- nothing is left at the end
-pub items_done : (sight : Sight) (xs : List Expr) (ys : List Column) (list : List ItemText) (i : ℕ) → length list ≤ i → with_fronts xs ys (items_from sight (i + 1) (drop i list)) ≡ Ok (xs, ys)
-items_done sight xs ys list i h = ap (λ zs. with_fronts xs ys (items_from sight (i + 1) zs)) (drop_all i list h) ∙ fronts-done xs ys
+pub items_done : (sight : Sight) (xs : List Expr) (ys : List Column) (list : List ItemText) (i : ℕ) → length list ≤ i → with_fronts xs ys (in_order (items_from sight (i + 1) (drop i list))) ≡ Ok (xs, ys)
+items_done sight xs ys list i h = ap (λ zs. with_fronts xs ys (in_order (items_from sight (i + 1) zs))) (drop_all i list h) ∙ fronts-done xs ys

@@ -5,6 +5,7 @@ use Rattle.std.specs.List.{AllByRecursion, list_any}
 use Rattle.std.proofs.lemmas.List.{map-append}
 use Rattle.std.proofs.lemmas.List.Elements.{All-from_recursion, recursion_from_All}
 use Rattle.og_value.specs.Cells.{kind_of}
+use Rattle.og_value.specs.Limits.{max_columns}
 use Rattle.og_value.specs.declared.kind.What.{What}
 use Rattle.og_value.specs.declared.schema.Column.{Column}
 use Rattle.og_value.specs.declared.value.Value.{Value}
@@ -20,16 +21,16 @@ use Rattle.og_query.specs.declared.typed.Assign.{Assign}
 use Rattle.og_query.specs.declared.typed.Typed.{Typed}
 use Rattle.og_query.specs.declared.typed.Typed.TheVariants as t
 use Rattle.og_check.specs.declared.refusal.CheckRefusal.TheVariants as r
-use Rattle.og_check.specs.Steps.{◌>>=◌, ◌>>◌, pure, in_order, unless, agree, same_kind, within}
+use Rattle.og_check.specs.Steps.{◌>>=◌, ◌>>◌, pure, on_each, unless, same_kind, within}
 use Rattle.og_check.specs.Sight.{Found, joined, found}
 use Rattle.og_check.specs.Expressions.{expr_of, where_of}
 use Rattle.og_check.specs.Cores.{query_of}
 use Rattle.og_check.specs.Statements as spec
 use Rattle.og_check.specs.Statements.{new_name, new_columns, table_columns, named_columns, tuple_of, set_of, with_set, sets_of, sees_table}
-use Rattle.og_check.proofs.OkLemmas.{not_ok, ok_same, bind_ok, unless_ok, same_is, agree_are, turn_keeps}
+use Rattle.og_check.proofs.OkLemmas.{not_ok, ok_same, bind_ok, unless_ok, same_is, agree_are, turn_keeps, on_each_all}
 use Rattle.og_check.proofs.SightFits.{found_fits, all_append}
 use Rattle.og_check.proofs.ExpressionFits.{expr_fits, where_fits}
-use Rattle.og_check.proofs.CoreFits.{known_are, in_order_all, query_fits}
+use Rattle.og_check.proofs.CoreFits.{known_are, query_fits}
 
 -- a name without a fault is new
 new_is : (known : Known) (name : List ℕ) (u : Unit {0}) → new_name known name ≡ Ok u → IsNew known name
@@ -55,11 +56,9 @@ table_found name columns = found_fits (sees_table name columns) (kinds_of column
 table_where : (name : List ℕ) (columns : List Column) (cond : Option CondText) (x : Cond) → where_of (sees_table name columns) cond ≡ Ok x → fits (kinds_of columns) x ≡ true
 table_where name columns = where_fits (sees_table name columns) (kinds_of columns) (table_found name columns)
 
--- a tuple that is checked fits
-tuple_fits : (columns : List Column) (row tuple : List Value) → tuple_of columns row ≡ Ok tuple → IsFitRow columns tuple
-tuple_fits columns row tuple g =
-    let a = bind_ok (agree (map kind_of row) (kinds_of columns)) (λ _. pure row) tuple g in
-    subst (IsFitRow columns) (ok_same row tuple a.2) (agree_are (map kind_of row) (kinds_of columns) a.0 a.1)
+-- a tuple without a fault fits
+tuple_fits : (columns : List Column) (row : List Value) (u : Unit {0}) → tuple_of columns row ≡ Ok u → IsFitRow columns row
+tuple_fits columns row u g = agree_are (map kind_of row) (kinds_of columns) u g
 
 -- the place of an assignment
 abbrev place_of : Assign → ℕ
@@ -116,28 +115,28 @@ with_set_fits name columns before text after g h =
     (all_append (IsFitAssign columns) before (a.0 ∷ []) h.0 (fit.0, tt), subst AreApart (sym (map-append place_of before (a.0 ∷ []))) (apart_append (map place_of before) a.0.column h.1 fit.1))
 
 -- assignments that are checked fit
-sets_fit : (name : List ℕ) (columns : List Column) (texts : List SetText) (sets : List Assign) → sets_of (sees_table name columns) [] texts ≡ Ok sets → AreFit columns sets
+sets_fit : (name : List ℕ) (columns : List Column) (texts : List SetText) (sets : List Assign) → sets_of (sees_table name columns) texts ≡ Ok sets → AreFit columns sets
 sets_fit name columns texts sets g = turn_keeps (AreFit columns) (with_set (sees_table name columns)) (with_set_fits name columns) [] texts sets g (tt, tt)
 
 -- a statement without a fault fits
 pub statement_fits : (known : Known) (stmt : Stmt) (typed : Typed) → spec.checked known stmt ≡ Ok typed → IsFit known typed
 statement_fits known (s.Create name columns) typed g =
-    let a = bind_ok (new_name known name) (λ _. do within 64 (length columns); xs ← new_columns [] columns; pure (t.Create name xs)) typed g in
-    let b = bind_ok (within 64 (length columns)) (λ _. do xs ← new_columns [] columns; pure (t.Create name xs)) typed a.2 in
-    let d = bind_ok (new_columns [] columns) (λ xs. pure (t.Create name xs)) typed b.2 in
+    let a = bind_ok (new_name known name) (λ _. do within max_columns (length columns); xs ← new_columns columns; pure (t.Create name xs)) typed g in
+    let b = bind_ok (within max_columns (length columns)) (λ _. do xs ← new_columns columns; pure (t.Create name xs)) typed a.2 in
+    let d = bind_ok (new_columns columns) (λ xs. pure (t.Create name xs)) typed b.2 in
     subst (IsFit known) (ok_same (t.Create name d.0) typed d.2) (new_is known name a.0 a.1)
 statement_fits known (s.Insert name rows) typed g =
-    let a = bind_ok (table_columns known name) (λ columns. do xs ← in_order (map (tuple_of columns) rows); pure (t.Insert name xs)) typed g in
-    let b = bind_ok (in_order (map (tuple_of a.0) rows)) (λ xs. pure (t.Insert name xs)) typed a.2 in
-    subst (IsFit known) (ok_same (t.Insert name b.0) typed b.2)
-    (a.0, known_are name (tables_of known name) a.0 a.1, All-from_recursion (IsFitRow a.0) b.0 (in_order_all (tuple_of a.0) (IsFitRow a.0) (tuple_fits a.0) rows b.0 b.1))
+    let a = bind_ok (table_columns known name) (λ columns. do on_each (tuple_of columns) rows; pure (t.Insert name rows)) typed g in
+    let b = bind_ok (on_each (tuple_of a.0) rows) (λ _. pure (t.Insert name rows)) typed a.2 in
+    subst (IsFit known) (ok_same (t.Insert name rows) typed b.2)
+    (a.0, known_are name (tables_of known name) a.0 a.1, All-from_recursion (IsFitRow a.0) rows (on_each_all (tuple_of a.0) (IsFitRow a.0) (tuple_fits a.0) rows b.0 b.1))
 statement_fits known (s.Delete name cond) typed g =
     let a = bind_ok (table_columns known name) (λ columns. do x ← where_of (sees_table name columns) cond; pure (t.Delete name x)) typed g in
     let b = bind_ok (where_of (sees_table name a.0) cond) (λ x. pure (t.Delete name x)) typed a.2 in
     subst (IsFit known) (ok_same (t.Delete name b.0) typed b.2) (a.0, known_are name (tables_of known name) a.0 a.1, table_where name a.0 cond b.0 b.1)
 statement_fits known (s.Update name sets cond) typed g =
-    let a = bind_ok (table_columns known name) (λ columns. do xs ← sets_of (sees_table name columns) [] sets; x ← where_of (sees_table name columns) cond; pure (t.Update name xs x)) typed g in
-    let b = bind_ok (sets_of (sees_table name a.0) [] sets) (λ xs. do x ← where_of (sees_table name a.0) cond; pure (t.Update name xs x)) typed a.2 in
+    let a = bind_ok (table_columns known name) (λ columns. do xs ← sets_of (sees_table name columns) sets; x ← where_of (sees_table name columns) cond; pure (t.Update name xs x)) typed g in
+    let b = bind_ok (sets_of (sees_table name a.0) sets) (λ xs. do x ← where_of (sees_table name a.0) cond; pure (t.Update name xs x)) typed a.2 in
     let d = bind_ok (where_of (sees_table name a.0) cond) (λ x. pure (t.Update name b.0 x)) typed b.2 in
     let fit = sets_fit name a.0 sets b.0 b.1 in
     subst (IsFit known) (ok_same (t.Update name b.0 d.0) typed d.2)

@@ -1,11 +1,12 @@
 -- The loops over checks that stand one after the other.
-use Rattle.std.proofs.Common.{◌≡◌, ◌++◌, ◌+◌, ◌<◌, ◌≤◌, ℕ, List, [], ◌∷◌, Ok, Err, map, length, drop, get_or, refl, ap, sym, ◌∙◌, append_assoc, append-nil, add-one, arith}
+use Rattle.std.proofs.Common.{◌≡◌, ◌++◌, ◌+◌, ◌<◌, ◌≤◌, ℕ, List, [], ◌∷◌, Some, Ok, Err, map, length, drop, get_or, slice_get, refl, ap, sym, ◌∙◌, append_assoc, append-nil, add-one, arith}
 use Rattle.std.proofs.Math.Seq.{drop-cons}
-use Rattle.std.proofs.lemmas.List.{drop_all}
+use Rattle.std.proofs.lemmas.List.{drop_all, length-map}
 use Rattle.og_value.specs.declared.kind.Kind.{Kind}
 use Rattle.og_check.specs.declared.refusal.CheckRefusal.{CheckRefusal}
-use Rattle.og_check.specs.Steps.{Checked, ◌>>=◌, ◌>>◌, pure, in_order, in_turn, same_kind, same_kinds, with_front, with_fronts}
-use Rattle.og_check.proofs.Parts.{left}
+use Rattle.og_check.specs.Fronts.{with_front, with_fronts, parted}
+use Rattle.og_check.specs.Steps.{Checked, ◌>>=◌, ◌>>◌, pure, in_order, in_turn, same_kind, same_kinds, same_count, agree}
+use Rattle.og_check.proofs.Parts.{left, left_got}
 
 -- two kinds and those after them
 kinds_left : (xs ys : List Kind) (i : ℕ) (x y : Kind) → i < length xs → length xs ≡ length ys
@@ -28,6 +29,39 @@ kinds_stop xs ys i x y fault h k e = kinds_left xs ys i x y h k ∙ ap (λ p. p 
 pub kinds_done : (xs ys : List Kind) (i : ℕ) → length xs ≤ i → same_kinds (drop i xs) ys ≡ Ok tt
 kinds_done xs ys i h = ap (λ zs. same_kinds zs ys) (drop_all i xs h)
 
+-- two lists of what has kinds, one beside the other
+module _ {A B : Type 0} (f : A → Kind) (g : B → Kind) where
+  -- as many as are wanted, and then their kinds
+  counted : (xs : List A) (ys : List B) (m n : ℕ) → m ≡ length xs → n ≡ length ys → agree (map f xs) (map g ys) ≡ (do same_count m n; same_kinds (map f xs) (map g ys))
+  counted xs ys m n d e = (λ i. same_count ((length-map xs f ∙ sym d) i) ((length-map ys g ∙ sym e) i) >> same_kinds (map f xs) (map g ys))
+
+  -- where the counts are the same, the kinds are left
+  pub count_next : (xs : List A) (ys : List B) (m n : ℕ) → m ≡ length xs → n ≡ length ys → same_count m n ≡ Ok tt → agree (map f xs) (map g ys) ≡ same_kinds (map f xs) (map g ys)
+  count_next xs ys m n d e h = counted xs ys m n d e ∙ ap (λ p. p >> same_kinds (map f xs) (map g ys)) h
+
+  -- where the counts differ, no kind is looked at
+  pub count_stop : (xs : List A) (ys : List B) (m n : ℕ) (fault : CheckRefusal) → m ≡ length xs → n ≡ length ys → same_count m n ≡ Err fault → agree (map f xs) (map g ys) ≡ Err fault
+  count_stop xs ys m n fault d e h = counted xs ys m n d e ∙ ap (λ p. p >> same_kinds (map f xs) (map g ys)) h
+
+  -- two kinds and those after them
+  pair_left : (xs : List A) (ys : List B) (i : ℕ) (x : A) (y : B) → slice_get xs i ≡ Some x → slice_get ys i ≡ Some y
+      → same_kinds (map f (drop i xs)) (map g (drop i ys)) ≡ (do same_kind (f x) (g y); same_kinds (map f (drop (i + 1) xs)) (map g (drop (i + 1) ys)))
+  pair_left xs ys i x y h k = (λ j. same_kinds (map f (left_got xs i x h j)) (map g (left_got ys i y k j)))
+
+  -- where the two are one kind, those after them are left
+  pub pair_kinds_next : (xs : List A) (ys : List B) (i : ℕ) (x : A) (y : B) → slice_get xs i ≡ Some x → slice_get ys i ≡ Some y → same_kind (f x) (g y) ≡ Ok tt
+      → same_kinds (map f (drop (i + 1) xs)) (map g (drop (i + 1) ys)) ≡ same_kinds (map f (drop i xs)) (map g (drop i ys))
+  pair_kinds_next xs ys i x y h k e = sym (pair_left xs ys i x y h k ∙ ap (λ p. p >> same_kinds (map f (drop (i + 1) xs)) (map g (drop (i + 1) ys))) e)
+
+  -- where they differ, the rest is not looked at
+  pub pair_kinds_stop : (xs : List A) (ys : List B) (i : ℕ) (x : A) (y : B) (fault : CheckRefusal) → slice_get xs i ≡ Some x → slice_get ys i ≡ Some y → same_kind (f x) (g y) ≡ Err fault
+      → same_kinds (map f (drop i xs)) (map g (drop i ys)) ≡ Err fault
+  pair_kinds_stop xs ys i x y fault h k e = pair_left xs ys i x y h k ∙ ap (λ p. p >> same_kinds (map f (drop (i + 1) xs)) (map g (drop (i + 1) ys))) e
+
+  -- no kinds are left at the end
+  pub pair_kinds_done : (xs : List A) (ys : List B) (i : ℕ) → length xs ≤ i → same_kinds (map f (drop i xs)) (map g ys) ≡ Ok tt
+  pair_kinds_done xs ys i h = ap (λ zs. same_kinds (map f zs) (map g ys)) (drop_all i xs h)
+
 -- nothing in front
 pub front-nil : {A : Type 0} (p : Checked (List A)) → with_front [] p ≡ p
 front-nil (Ok xs) = refl
@@ -42,6 +76,11 @@ front-more xs y (Err e) = refl
 pub fronts-more : {A B : Type 0} (xs : List A) (ys : List B) (z : A × B) (p : Checked (List (A × B))) → with_fronts xs ys (do zs ← p; pure (z ∷ zs)) ≡ with_fronts (xs ++ z.0 ∷ []) (ys ++ z.1 ∷ []) p
 fronts-more xs ys z (Ok zs) = (λ i. Ok (sym (append_assoc xs (z.0 ∷ []) (map (λ x. x.0) zs)) i, sym (append_assoc ys (z.1 ∷ []) (map (λ x. x.1) zs)) i))
 fronts-more xs ys z (Err e) = refl
+
+-- what comes of pairs comes of their two lists
+pub bind-parted : {A B C : Type 0} (p : Checked (List (A × B))) (f : List A → List B → Checked C) → (do xs ← p; f (map (λ x. x.0) xs) (map (λ x. x.1) xs)) ≡ (do xs ← parted p; f xs.0 xs.1)
+bind-parted (Ok xs) f = refl
+bind-parted (Err e) f = refl
 
 -- nothing is left
 pub fronts-done : {A B : Type 0} (xs : List A) (ys : List B) → with_fronts xs ys (Ok []) ≡ Ok (xs, ys)

@@ -3,6 +3,7 @@ use Rattle.std.specs.Prelude.{◌+◌, ◌++◌, ℕ, not, List, [], ◌∷◌, 
 use Rattle.std.specs.Fmt.{decimal}
 use Rattle.std.specs.List.{list_any}
 use Rattle.std.specs.Str.{bytes_eq}
+use Rattle.og_value.specs.Limits.{max_columns}
 use Rattle.og_value.specs.declared.schema.Column.{Column}
 use Rattle.og_syntax.specs.declared.tree.ExprText.{ExprText, out-ExprText}
 use Rattle.og_syntax.specs.declared.tree.ExprText.TheOpen as text
@@ -18,14 +19,16 @@ use Rattle.og_query.specs.Kinds.{kinds_of}
 use Rattle.og_query.specs.Fits.{Schemas}
 use Rattle.og_query.specs.declared.expression.Expr.{Expr}
 use Rattle.og_query.specs.declared.expression.Expr.TheVariants as e
+use Rattle.og_query.specs.declared.condition.Cond.{Cond}
 use Rattle.og_query.specs.declared.condition.Cond.TheVariants as c
+use Rattle.og_query.specs.declared.query.From1.{From1}
 use Rattle.og_query.specs.declared.query.Semi.{Semi}
 use Rattle.og_query.specs.declared.query.Core.{Core}
 use Rattle.og_query.specs.declared.query.Rest.{Rest}
 use Rattle.og_query.specs.declared.query.Query.{Query}
-use Rattle.og_check.specs.declared.tables.Joined.{Joined}
 use Rattle.og_check.specs.declared.refusal.CheckRefusal.TheVariants as r
-use Rattle.og_check.specs.Steps.{Checked, ◌>>=◌, ◌>>◌, pure, in_order, in_turn, parted, unless, agree, within}
+use Rattle.og_check.specs.Limits.{max_tables}
+use Rattle.og_check.specs.Steps.{Checked, ◌>>=◌, ◌>>◌, pure, in_order, in_turn, unless, agree, within}
 use Rattle.og_check.specs.Sight.{Item, Sight, joined}
 use Rattle.og_check.specs.Expressions.{expr_of, conds_of, where_of}
 
@@ -51,12 +54,18 @@ sees items = record { core = items; sub = [] }
 abbrev pub sees_sub : List Item → Item → Sight
 sees_sub items item = record { core = items; sub = item ∷ [] }
 
+-- what FROM gives: the items that are seen, the tables, and the conditions of ON
+pub record From : Type 0 where
+  pub items : List Item
+  pub tables : List From1
+  pub conds : List Cond
+
 -- FROM without tables
-abbrev pub no_tables : Joined
+abbrev pub no_tables : From
 no_tables = record { items = []; tables = []; conds = [] }
 
 -- with one more table: its name, its alias, and its condition of ON, which sees the items so far
-abbrev pub with_table : Schemas → Joined → FromText → Checked Joined
+abbrev pub with_table : Schemas → From → FromText → Checked From
 with_table schemas from t = do
   columns ← known_columns t.name (schemas t.name)
   unused (alias_of t.name t.alias) from.items
@@ -67,9 +76,9 @@ with_table schemas from t = do
     conds = from.conds ++ conds;
   })
 
--- with further tables, from the left
-abbrev pub from_of : Schemas → Joined → List FromText → Checked Joined
-from_of schemas from tables = in_turn (with_table schemas) from tables
+-- FROM: its tables from the left
+abbrev pub from_of : Schemas → List FromText → Checked From
+from_of schemas tables = in_turn (with_table schemas) no_tables tables
 
 -- EXISTS and NOT EXISTS: the name, the alias and the condition
 abbrev pub semi_of : Schemas → List Item → SemiText → Checked Semi
@@ -96,10 +105,10 @@ Shown = Expr × Column
 abbrev pub item_of : Sight → ℕ → ItemText → Checked Shown
 item_of sight n item = do x ← expr_of sight item.expr; pure (x.0, record { name = item_name n item; kind = x.1 })
 
--- the items from the n-th on
-abbrev pub items_from : Sight → ℕ → List ItemText → Checked (List Shown)
-items_from sight n [] = pure []
-items_from sight n (item ∷ items) = do x ← item_of sight n item; xs ← items_from sight (n + 1) items; pure (x ∷ xs)
+-- each item, of which the first is the n-th
+abbrev pub items_from : Sight → ℕ → List ItemText → List (Checked Shown)
+items_from sight n [] = []
+items_from sight n (item ∷ items) = item_of sight n item ∷ items_from sight (n + 1) items
 
 -- each column, from a place on, as an item
 abbrev pub star_from : ℕ → List Column → List Shown
@@ -109,22 +118,30 @@ star_from place (column ∷ columns) = (e.Column place, column) ∷ star_from (p
 -- the items of SELECT: * gives all columns of the core's items
 abbrev pub items_of : List Item → ItemsText → Checked (List Shown)
 items_of items items_.Star = pure (star_from 0 (joined items))
-items_of items (items_.List list) = items_from (sees items) 1 list
+items_of items (items_.List list) = in_order (items_from (sees items) 1 list)
 
--- columns as a schema, which has 1 to 64
+-- the expressions of items
+abbrev pub exprs_of : List Shown → List Expr
+exprs_of items = map (λ x. x.0) items
+
+-- the columns of items
+abbrev pub columns_of : List Shown → List Column
+columns_of items = map (λ x. x.1) items
+
+-- columns as a schema, which has at least one, and at most so many as a schema may have
 abbrev pub schema_of : List Column → Checked (List Column)
-schema_of columns = do within 64 (length columns); pure columns
+schema_of columns = do within max_columns (length columns); pure columns
 
 -- a SELECT: the number of its tables, FROM, WHERE, its semis, its items and their number
 abbrev pub core_of : Schemas → CoreText → Checked Core
 core_of schemas core = do
-  within 16 (length core.tables)
-  from ← from_of schemas no_tables core.tables
+  within max_tables (length core.tables)
+  from ← from_of schemas core.tables
   conds ← conds_of (sees from.items) core.cond
   semis ← in_order (map (semi_of schemas from.items) core.semis)
-  items ← parted (items_of from.items core.items)
-  schema ← schema_of items.1
-  pure (record { tables = from.tables; cond = c.And (from.conds ++ conds); semis = semis; items = items.0; schema = schema })
+  items ← items_of from.items core.items
+  schema ← schema_of (columns_of items)
+  pure (record { tables = from.tables; cond = c.And (from.conds ++ conds); semis = semis; items = exprs_of items; schema = schema })
 
 -- a further SELECT, whose columns agree with those of the first
 abbrev pub rest_of : Schemas → Core → RestText → Checked Rest

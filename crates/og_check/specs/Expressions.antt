@@ -1,5 +1,5 @@
 -- The checks of expressions and conditions: operand by operand from the left, then the node itself.
-use Rattle.std.specs.Prelude.{List, [], ◌∷◌, Option, Some, None, Err}
+use Rattle.std.specs.Prelude.{List, [], ◌∷◌, Option, Some, None, Err, map}
 use Rattle.og_value.specs.Cells.{kind_of}
 use Rattle.og_value.specs.declared.kind.Kind.{Kind}
 use Rattle.og_value.specs.declared.kind.Kind.TheVariants as k
@@ -16,7 +16,7 @@ use Rattle.og_query.specs.declared.expression.Expr.TheVariants as e
 use Rattle.og_query.specs.declared.condition.Cond.{Cond}
 use Rattle.og_query.specs.declared.condition.Cond.TheVariants as c
 use Rattle.og_check.specs.declared.refusal.CheckRefusal.TheVariants as r
-use Rattle.og_check.specs.Steps.{Checked, ◌>>=◌, ◌>>◌, pure, in_order, parted, agree, same_kind}
+use Rattle.og_check.specs.Steps.{Checked, ◌>>=◌, ◌>>◌, pure, in_order, agree, same_kind}
 use Rattle.og_check.specs.Sight.{Sight, found}
 
 -- an expression and its kind
@@ -49,7 +49,7 @@ call_of func args kinds = do agree kinds (wanted func); pure (e.Call func args, 
 abbrev pub expr_step : Sight → text.ExprText-F (Checked Kinded) → Checked Kinded
 expr_step sight (text.Column table name) = do x ← found sight table name; pure (e.Column x.0, x.1)
 expr_step sight (text.Lit value) = pure (e.Lit value, kind_of value)
-expr_step sight (text.Call func args) = do xs ← parted (in_order args); call_of func xs.0 xs.1
+expr_step sight (text.Call func args) = do xs ← in_order args; call_of func (map (λ x. x.0) xs) (map (λ x. x.1) xs)
 
 -- an expression over the columns in sight
 abbrev pub expr_of : Sight → ExprText → Checked Kinded

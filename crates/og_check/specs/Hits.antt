@@ -1,4 +1,4 @@
--- How many columns were found: none, one or more.
+-- How many columns were found: none, one or more. Beside private functions alone.
 use Rattle.std.specs.Prelude.{List, [], ◌∷◌}
 use Rattle.og_check.specs.declared.hits.Hits.{Hits}
 use Rattle.og_check.specs.declared.hits.Hits.TheVariants as h

@@ -1,7 +1,10 @@
 pub mod Cores
 pub mod Expressions
+pub mod Fronts
 pub mod Hits
+pub mod Limits
 pub mod Names
+pub mod Results
 pub mod Shown
 pub mod Sight
 pub mod Statements

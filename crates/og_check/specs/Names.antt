@@ -1,4 +1,4 @@
--- Which names a query may ask.
+-- Which names a query may ask. Beside private functions alone.
 use Rattle.og_query.specs.Fits.{Known, Schemas, schemas_of, tables_of}
 use Rattle.og_check.specs.declared.names.Names.{Names}
 use Rattle.og_check.specs.declared.names.Names.TheVariants as n

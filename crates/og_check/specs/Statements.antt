@@ -3,7 +3,7 @@ use Rattle.std.specs.Prelude.{◌==◌, ◌++◌, ℕ, ℤ, not, List, [], ◌�
 use Rattle.std.specs.List.{list_any}
 use Rattle.std.specs.Str.{bytes_eq}
 use Rattle.og_value.specs.Cells.{kind_of}
-use Rattle.og_value.specs.declared.kind.Kind.{Kind}
+use Rattle.og_value.specs.Limits.{max_columns}
 use Rattle.og_value.specs.declared.kind.What.{What}
 use Rattle.og_value.specs.declared.schema.Column.{Column}
 use Rattle.og_value.specs.declared.value.Value.{Value}
@@ -18,7 +18,7 @@ use Rattle.og_query.specs.declared.typed.Assign.{Assign}
 use Rattle.og_query.specs.declared.typed.Typed.{Typed}
 use Rattle.og_query.specs.declared.typed.Typed.TheVariants as t
 use Rattle.og_check.specs.declared.refusal.CheckRefusal.TheVariants as r
-use Rattle.og_check.specs.Steps.{Checked, ◌>>=◌, ◌>>◌, pure, in_order, in_turn, unless, agree, same_kind, within}
+use Rattle.og_check.specs.Steps.{Checked, ◌>>=◌, ◌>>◌, pure, in_turn, on_each, unless, agree, same_kind, within}
 use Rattle.og_check.specs.Sight.{Sight, found}
 use Rattle.og_check.specs.Expressions.{expr_of, where_of}
 use Rattle.og_check.specs.Cores.{known_columns, sees, query_of}
@@ -40,9 +40,9 @@ new_column name before = unless (not (list_any (λ other. bytes_eq other.name na
 abbrev pub with_column : List Column → Column → Checked (List Column)
 with_column before column = do new_column column.name before; pure (before ++ column ∷ [])
 
--- columns after those before, each with another name than those before it
-abbrev pub new_columns : List Column → List Column → Checked (List Column)
-new_columns before columns = in_turn with_column before columns
+-- columns, each with another name than those before it
+abbrev pub new_columns : List Column → Checked (List Column)
+new_columns columns = in_turn with_column [] columns
 
 -- the columns of a table, which has to be one
 abbrev pub table_columns : Known → List ℕ → Checked (List Column)
@@ -52,13 +52,9 @@ table_columns known name = known_columns name (tables_of known name)
 abbrev pub named_columns : Known → List ℕ → Checked (List Column)
 named_columns known name = known_columns name (schemas_of known name)
 
--- a tuple, which has values of these kinds
-abbrev pub tuple_of_kinds : List Kind → List Value → Checked (List Value)
-tuple_of_kinds kinds row = do agree (map kind_of row) kinds; pure row
-
 -- a tuple, which has a value of the kind of each column
-abbrev pub tuple_of : List Column → List Value → Checked (List Value)
-tuple_of columns row = tuple_of_kinds (kinds_of columns) row
+abbrev pub tuple_of : List Column → List Value → Checked (Unit {0})
+tuple_of columns row = agree (map kind_of row) (kinds_of columns)
 
 -- an assignment after those before: the column, that it is set once, the expression and its kind
 abbrev pub set_of : Sight → List Assign → SetText → Checked Assign
@@ -73,9 +69,9 @@ set_of sight before set = do
 abbrev pub with_set : Sight → List Assign → SetText → Checked (List Assign)
 with_set sight before set = do one ← set_of sight before set; pure (before ++ one ∷ [])
 
--- assignments after those before
-abbrev pub sets_of : Sight → List Assign → List SetText → Checked (List Assign)
-sets_of sight before sets = in_turn (with_set sight) before sets
+-- assignments, from the left
+abbrev pub sets_of : Sight → List SetText → Checked (List Assign)
+sets_of sight sets = in_turn (with_set sight) [] sets
 
 -- the columns of one table, whose name is its alias
 abbrev pub sees_table : List ℕ → List Column → Sight
@@ -83,11 +79,11 @@ sees_table name columns = sees ((name, columns) ∷ [])
 
 -- CREATE TABLE: a new name, the number of the columns, and their names
 abbrev pub create : Known → List ℕ → List Column → Checked Typed
-create known name columns = do new_name known name; within 64 (length columns); xs ← new_columns [] columns; pure (t.Create name xs)
+create known name columns = do new_name known name; within max_columns (length columns); xs ← new_columns columns; pure (t.Create name xs)
 
 -- INSERT: a table, and the tuples in order
 abbrev pub insert : Known → List ℕ → List (List Value) → Checked Typed
-insert known name rows = do columns ← table_columns known name; xs ← in_order (map (tuple_of columns) rows); pure (t.Insert name xs)
+insert known name rows = do columns ← table_columns known name; on_each (tuple_of columns) rows; pure (t.Insert name rows)
 
 -- DELETE: a table, and the condition
 abbrev pub delete : Known → List ℕ → Option CondText → Checked Typed
@@ -97,7 +93,7 @@ delete known name cond = do columns ← table_columns known name; x ← where_of
 abbrev pub update : Known → List ℕ → List SetText → Option CondText → Checked Typed
 update known name sets cond = do
   columns ← table_columns known name
-  xs ← sets_of (sees_table name columns) [] sets
+  xs ← sets_of (sees_table name columns) sets
   x ← where_of (sees_table name columns) cond
   pure (t.Update name xs x)
 

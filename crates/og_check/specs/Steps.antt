@@ -1,8 +1,6 @@
 -- Checks one after the other: each gives a value or the first fault.
-use Rattle.std.specs.Prelude.{◌≡◌, ◌==◌, ◌++◌, ℕ, zero, Bool, true, false, not, List, [], ◌∷◌, Result, Ok, Err, Vec, length, map, nat_lt, if◌then◌else◌}
+use Rattle.std.specs.Prelude.{◌≡◌, ◌==◌, ℕ, zero, Bool, true, false, not, List, [], ◌∷◌, Result, Ok, Err, length, nat_lt, if◌then◌else◌}
 use denote.Enum.Bare.{sameb}
-use denote.Ref.{Bor}
-use Rattle.std.specs.declared.alloc.Global.{Global}
 use Rattle.og_value.specs.contracts.kind.Kind.{the_type}
 use Rattle.og_value.specs.declared.kind.Kind.{Kind}
 use Rattle.og_check.specs.declared.refusal.CheckRefusal.{CheckRefusal}
@@ -39,6 +37,10 @@ abbrev pub in_turn : {S A : Type 0} → (S → A → Checked S) → S → List A
 in_turn step before [] = Ok before
 in_turn step before (x ∷ xs) = do after ← step before x; in_turn step after xs
 
+-- the check of each of a list in order: no value, or the first fault
+abbrev pub on_each : {A : Type 0} → (A → Checked (Unit {0})) → List A → Checked (Unit {0})
+on_each check xs = in_turn (λ _ x. check x) tt xs
+
 -- no fault where the test holds
 abbrev pub unless : Bool → CheckRefusal → Checked (Unit {0})
 unless good fault = if good then Ok tt else Err fault
@@ -73,33 +75,6 @@ within limit found = unless (not (nat_lt limit found)) (r.TooMany found limit)
 abbrev pub is_fault : CheckRefusal → Bool
 is_fault r.NoMemory = false
 is_fault _ = true
-
--- what a function gave is what is checked, unless memory ran out
-abbrev pub Gives : {A : Type 0} → Result A CheckRefusal → Checked A → Type 0
-Gives (Ok x) checked = checked ≡ Ok x
-Gives (Err reason) checked = is_fault reason ≡ true → checked ≡ Err reason
-
--- what a function lent, as the value behind it
-abbrev pub lent : {A : Type 0} → Result (Bor A) CheckRefusal → Result A CheckRefusal
-lent (Ok x) = Ok x.now
-lent (Err reason) = Err reason
-
--- the front of a list before the rest that is checked
-abbrev pub with_front : {A : Type 0} → List A → Checked (List A) → Checked (List A)
-with_front front rest = do xs ← rest; pure (front ++ xs)
-
--- the fronts of two lists before the rest that is checked, whose pairs are parted
-abbrev pub with_fronts : {A B : Type 0} → List A → List B → Checked (List (A × B)) → Checked (List A × List B)
-with_fronts left right rest = do xs ← rest; pure (left ++ map (λ x. x.0) xs, right ++ map (λ x. x.1) xs)
-
--- pairs that are checked, as two lists
-abbrev pub parted : {A B : Type 0} → Checked (List (A × B)) → Checked (List A × List B)
-parted = with_fronts [] []
-
--- what a function gave, as the list of its parts
-abbrev pub listed : {A : Type 0} → Result (Vec A Global) CheckRefusal → Result (List A) CheckRefusal
-listed (Ok xs) = Ok xs.items
-listed (Err reason) = Err reason
 
 -- the reason is that memory ran out, or one of which this holds
 abbrev pub OrNoMemory : (CheckRefusal → Type 0) → CheckRefusal → Type 0

@@ -1,28 +1,26 @@
 //! The checks of CREATE TABLE, INSERT and UPDATE.
-ghost use Rattle.std.specs.Prelude.{◌≡◌, ◌==◌, ◌++◌, ◌∷◌, [], map, IfOk};
+ghost use Rattle.std.specs.Prelude.{◌≡◌, ◌==◌, ◌++◌, ◌∷◌, [], IfOk};
 ghost use Rattle.std.specs.List.{list_any};
 ghost use Rattle.std.specs.Str.{bytes_eq};
-ghost use Rattle.og_value.specs.Cells.{kind_of};
-ghost use Rattle.og_query.specs.Kinds.{kinds_of};
+ghost use Rattle.og_check.specs.Results.{Gives, listed};
 ghost use Rattle.og_check.specs.Statements as spec;
-ghost use Rattle.og_check.specs.Steps.{Gives, in_order, listed};
+ghost use Rattle.og_check.specs.Steps.{on_each};
 
 use crate::columns::found;
 use crate::expressions::{expr_of, kind_of};
-use crate::kinds::{agree, same_kind};
-use crate::queries::kinds_of;
+use crate::kinds::{same_count, same_kind};
 use crate::refusal::CheckRefusal;
 use crate::sight::Sight;
 use og_base::{NoMemory, OngoingRow};
 use og_query::Assign;
 use og_syntax::SetText;
-use og_value::{Column, Kind, Name, Row, Schema};
+use og_value::{Column, Name, Row, Schema};
 use sqlite_items::Items;
 use std::alloc::Global;
 
 /// The columns, of which each has another name than those before it.
 pub fn new_columns(alloc: Global, columns: &[Column]) -> Result<Vec<Column>, CheckRefusal>
-    ensures new { Gives (listed result) (spec.new_columns [] columns.now) }
+    ensures new { Gives (listed result) (spec.new_columns columns.now) }
     ensures same { IfOk result (λ new. new.items ≡ columns.now) }
 {
     let mut new = Vec::new(alloc);
@@ -60,43 +58,36 @@ fn has_column(name: &Name, columns: &[Column]) -> bool
     columns.iter().any(|other| other.name == *name)
 }
 
-/// The tuples, which have a value of the kind of each column.
-pub fn tuples_of(alloc: Global, columns: &Schema, rows: &[Row]) -> Result<Items<Row>, CheckRefusal>
-    ensures { Gives result (in_order (map (spec.tuple_of columns.now) rows.now)) }
+/// The first fault of the tuples, of which each has a value of the kind of each column.
+pub fn rows_agree(columns: &Schema, rows: &[Row]) -> Result<(), CheckRefusal>
+    ensures { Gives result (on_each (spec.tuple_of columns.now) rows.now) }
 {
-    let wanted = kinds_of(alloc, columns)?;
-    tuples_of_kinds(alloc, wanted.as_slice(), rows)
-}
-
-// The tuples, which have values of these kinds.
-fn tuples_of_kinds(alloc: Global, wanted: &[Kind], rows: &[Row]) -> Result<Items<Row>, CheckRefusal>
-    ensures { Gives result (in_order (map (spec.tuple_of_kinds wanted.now) rows.now)) }
-{
-    let mut tuples = Items::new(alloc);
     'each: for row in rows {
-        tuples.push(tuple_of(alloc, wanted, row)?)?;
+        row_agrees(columns, row)?;
     }
-    Ok(tuples)
+    Ok(())
 }
 
-// The tuple, which has values of these kinds.
-fn tuple_of(alloc: Global, wanted: &[Kind], row: &Row) -> Result<Row, CheckRefusal>
-    ensures { Gives result (spec.tuple_of_kinds wanted.now row.now) }
+// The first fault of the tuple, which has a value of the kind of each column.
+fn row_agrees(columns: &Schema, row: &Row) -> Result<(), CheckRefusal>
+    ensures { Gives result (spec.tuple_of columns.now row.now) }
 {
-    let found = row_kinds(alloc, row)?;
-    agree(found.as_slice(), wanted)?;
-    Ok(row.copy(alloc)?)
-}
-
-// The kinds of the values.
-fn row_kinds(alloc: Global, row: &Row) -> Result<Items<Kind>, NoMemory>
-    ensures { IfOk result (λ kinds. kinds ≡ map kind_of row.now) }
-{
-    let mut kinds = Items::new(alloc);
+    same_count(row.len(), columns.len())?;
     'values: for i in 0..row.len() {
-        kinds.push(kind_of(row.value(i)))?;
+        same_kind(kind_of(row.value(i)), columns.column(i).kind)?;
     }
-    Ok(kinds)
+    Ok(())
+}
+
+/// The tuples once more.
+pub fn rows_copied(alloc: Global, rows: &[Row]) -> Result<Items<Row>, NoMemory>
+    ensures { IfOk result (λ copies. copies ≡ rows.now) }
+{
+    let mut copies = Items::new(alloc);
+    'rows: for row in rows {
+        copies.push(row.copy(alloc)?)?;
+    }
+    Ok(copies)
 }
 
 /// The assignments of UPDATE.
@@ -105,7 +96,7 @@ pub fn sets_of(
     sight: &Sight,
     sets: &[SetText],
 ) -> Result<Items<Assign>, CheckRefusal>
-    ensures { Gives result (spec.sets_of sight.now [] sets.now) }
+    ensures { Gives result (spec.sets_of sight.now sets.now) }
 {
     let mut typed = Items::new(alloc);
     'each: for set in sets {

@@ -2,9 +2,10 @@
 ghost use Rattle.std.specs.Prelude.{◌≡◌, Ok, Err, IfOk, IfErr};
 ghost use Rattle.og_check.specs.Statements.{checked};
 ghost use Rattle.og_check.specs.Statements as spec;
-ghost use Rattle.og_check.specs.Steps.{Gives, OrNoMemory};
+ghost use Rattle.og_check.specs.Results.{Gives};
+ghost use Rattle.og_check.specs.Steps.{OrNoMemory};
 
-use crate::changes::{new_columns, sets_of, tuples_of};
+use crate::changes::{new_columns, rows_agree, rows_copied, sets_of};
 use crate::conditions::where_of;
 use crate::kinds::within;
 use crate::names::{Names, known_columns, new_name};
@@ -14,7 +15,8 @@ use crate::sight::{Item, Sight};
 use og_base::RefDay;
 use og_query::Typed;
 use og_syntax::{CondText, QueryText, SetText, Stmt};
-use og_value::{Catalog, Column, Name, Row, Schema, Text};
+use og_value::{Catalog, Column, MAX_COLUMNS, Name, Row, Schema, Text};
+use sqlite_items::Items;
 use std::alloc::Global;
 
 /// The statement with its names and kinds looked up in the catalog, or its first fault in the order
@@ -24,6 +26,23 @@ pub fn check<C: Catalog>(alloc: Global, stmt: &Stmt, known: &C) -> Result<Typed,
     ensures refused { IfErr result (OrNoMemory (λ reason. checked (C.known known.now) stmt.now ≡ Err reason)) }
 {
     statement(alloc, known, stmt)
+}
+
+/// As `check`, of a statement that is not used again: the tuples of INSERT go from it into the typed
+/// statement, and none is copied.
+pub fn check_owned<C: Catalog>(alloc: Global, stmt: Stmt, known: &C) -> Result<Typed, CheckRefusal>
+    ensures typed { IfOk result (λ typed. checked (C.known known.now) stmt ≡ Ok typed) }
+    ensures refused { IfErr result (OrNoMemory (λ reason. checked (C.known known.now) stmt ≡ Err reason)) }
+{
+    match stmt {
+        Stmt::Insert { name, rows } => insert_owned(known, name, rows),
+        other => {
+            let result = check(alloc, &other, known);
+            // By one call, since a drop of each kind of statement in place is dear to prove.
+            drop(other);
+            result
+        }
+    }
 }
 
 // The typed statement, or its first fault.
@@ -59,7 +78,7 @@ fn create<C: Catalog>(
     ensures { Gives result (spec.create (C.known known.now) name.now columns.now) }
 {
     new_name(known, name)?;
-    within(64, columns.len())?;
+    within(MAX_COLUMNS, columns.len())?;
     let columns = new_columns(alloc, columns)?;
     Ok(Typed::Create {
         name: name.copy()?,
@@ -76,12 +95,18 @@ fn insert<C: Catalog>(
 ) -> Result<Typed, CheckRefusal>
     ensures { Gives result (spec.insert (C.known known.now) name.now rows.now) }
 {
-    let columns = known_columns(known, Names::Tables, name)?;
-    let rows = tuples_of(alloc, columns, rows)?;
-    Ok(Typed::Insert {
-        name: name.copy()?,
-        rows,
-    })
+    rows_agree(known_columns(known, Names::Tables, name)?, rows)?;
+    let name = name.copy()?;
+    let rows = rows_copied(alloc, rows)?;
+    Ok(Typed::Insert { name, rows })
+}
+
+// The same of a name and of tuples that are not used again.
+fn insert_owned<C: Catalog>(known: &C, name: Name, rows: Items<Row>) -> Result<Typed, CheckRefusal>
+    ensures { Gives result (spec.insert (C.known known.now) name rows) }
+{
+    rows_agree(known_columns(known, Names::Tables, &name)?, rows.as_slice())?;
+    Ok(Typed::Insert { name, rows })
 }
 
 // DELETE FROM: a table, and a condition on its columns.

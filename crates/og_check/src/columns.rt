@@ -2,9 +2,10 @@
 ghost use Rattle.std.specs.Prelude.{◌≡◌, ◌+◌, ◌<◌, ◌^◌, ◌++◌, ◌∷◌, [], length, Some, if◌then◌else◌};
 ghost use Rattle.std.specs.Str.{bytes_eq};
 ghost use Rattle.og_check.specs.Hits.{hits_of, with_found};
+ghost use Rattle.og_check.specs.Results.{Gives};
 ghost use Rattle.og_check.specs.Sight as spec;
 ghost use Rattle.og_check.specs.Sight.{looks_at, among, joined};
-ghost use Rattle.og_check.specs.Steps.{Gives, pure};
+ghost use Rattle.og_check.specs.Steps.{pure};
 
 use crate::hits::{Hits, one_more, or_hits};
 use crate::refusal::CheckRefusal;

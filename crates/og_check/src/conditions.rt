@@ -3,7 +3,8 @@ ghost use Rattle.std.specs.Prelude.{◌≡◌, ◌∷◌, [], map};
 ghost use Rattle.og_value.specs.declared.kind.Kind.TheVariants as kinds;
 ghost use Rattle.og_check.specs.Expressions as spec;
 ghost use Rattle.og_check.specs.Expressions.{cond_of};
-ghost use Rattle.og_check.specs.Steps.{Gives, in_order};
+ghost use Rattle.og_check.specs.Results.{Gives};
+ghost use Rattle.og_check.specs.Steps.{in_order};
 
 use crate::expressions::expr_of;
 use crate::kinds::same_kind;

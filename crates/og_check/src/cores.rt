@@ -3,21 +3,24 @@ ghost use Rattle.std.specs.Prelude.{◌≡◌, ◌++◌, ◌∷◌, [], codes, l
 ghost use Rattle.std.specs.Fmt.{decimal};
 ghost use Rattle.og_syntax.specs.declared.tree.ExprText.{out-ExprText};
 ghost use Rattle.og_check.specs.Cores as spec;
+ghost use Rattle.og_check.specs.Fronts.{parted, with_fronts};
 ghost use Rattle.og_check.specs.Names.{schemas_in};
-ghost use Rattle.og_check.specs.Sight.{joined};
+ghost use Rattle.og_check.specs.Results.{Gives};
 ghost use Rattle.og_check.specs.Shown.{shown};
-ghost use Rattle.og_check.specs.Steps.{Gives, pure, parted, with_fronts};
+ghost use Rattle.og_check.specs.Sight.{joined};
+ghost use Rattle.og_check.specs.Steps.{in_order, pure};
 
 use crate::conditions::conds_of;
 use crate::expressions::expr_of;
 use crate::kinds::within;
+use crate::limits::MAX_TABLES;
 use crate::names::Names;
 use crate::refusal::CheckRefusal;
 use crate::sight::{Item, Sight};
 use crate::tables::{from_of, semis_of};
 use og_query::{Cond, Core, Expr};
 use og_syntax::{CoreText, ExprText, ItemText, ItemsText};
-use og_value::{Catalog, Column, Name, NameRefusal, Schema};
+use og_value::{Catalog, Column, MAX_COLUMNS, Name, NameRefusal, Schema};
 use sqlite_items::Items;
 use std::alloc::Global;
 
@@ -37,7 +40,7 @@ pub fn core_of<C: Catalog>(
 ) -> Result<Core, CheckRefusal>
     ensures { Gives result (spec.core_of (schemas_in names (C.known known.now)) core.now) }
 {
-    within(16, core.tables.len())?;
+    within(MAX_TABLES, core.tables.len())?;
     let from = from_of(alloc, known, names, core.tables.as_slice())?;
     let items = from.items;
     let mut conds = from.conds;
@@ -56,11 +59,11 @@ pub fn core_of<C: Catalog>(
 }
 
 /// The schema of the columns. `CountsDiffer` exactly where there is none, `TooMany` where there are
-/// more than 64.
+/// more than `MAX_COLUMNS`.
 pub fn schema_of(columns: Vec<Column>) -> Result<Schema, CheckRefusal>
     ensures { Gives result (spec.schema_of columns.items) }
 {
-    within(64, columns.len())?;
+    within(MAX_COLUMNS, columns.len())?;
     Ok(Schema::of(columns))
 }
 
@@ -112,7 +115,7 @@ fn with_column(before: Shown, column: &Column) -> Result<Shown, CheckRefusal>
 
 // The items of a list.
 fn list_of(alloc: Global, sight: &Sight, list: &[ItemText]) -> Result<Shown, CheckRefusal>
-    ensures { Gives (shown result) (parted (spec.items_from sight.now 1 list.now)) }
+    ensures { Gives (shown result) (parted (in_order (spec.items_from sight.now 1 list.now))) }
 {
     let mut exprs = Items::new(alloc);
     let mut columns = Vec::new(alloc);

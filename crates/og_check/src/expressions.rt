@@ -3,7 +3,9 @@ ghost use Rattle.std.specs.Prelude.{◌≡◌, map};
 ghost use Rattle.og_value.specs.Cells as cells;
 ghost use Rattle.og_check.specs.Expressions as spec;
 ghost use Rattle.og_check.specs.Expressions.{expr_of, wanted};
-ghost use Rattle.og_check.specs.Steps.{Gives, in_order, parted};
+ghost use Rattle.og_check.specs.Fronts.{parted};
+ghost use Rattle.og_check.specs.Results.{Gives};
+ghost use Rattle.og_check.specs.Steps.{in_order};
 
 use crate::columns::found;
 use crate::kinds::agree;

@@ -1,24 +1,17 @@
 //! Kinds and counts that were found, against those that are wanted.
 ghost use Rattle.std.specs.Prelude.{◌≡◌, ◌≤◌, length, IfOk};
+ghost use Rattle.og_check.specs.Results.{Gives};
 ghost use Rattle.og_check.specs.Steps as spec;
-ghost use Rattle.og_check.specs.Steps.{Gives, is_kind};
 
 use crate::refusal::CheckRefusal;
 use og_value::Kind;
 
-/// Whether both are the same.
-#[tactic(auto, unfolding(crate::specs::Steps::is_kind))]
-pub fn is_kind(found: Kind, wanted: Kind) -> bool
-    ensures { result ≡ is_kind found wanted }
-{
-    found == wanted
-}
-
 /// `KindsDiffer` exactly where the found kind is not the wanted one.
+#[tactic(auto, unfolding(crate::specs::Steps::is_kind))]
 pub fn same_kind(found: Kind, wanted: Kind) -> Result<(), CheckRefusal>
     ensures { Gives result (spec.same_kind found wanted) }
 {
-    if !is_kind(found, wanted) {
+    if found != wanted {
         return Err(CheckRefusal::KindsDiffer { found, wanted });
     }
     Ok(())

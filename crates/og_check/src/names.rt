@@ -3,8 +3,8 @@ ghost use Rattle.std.specs.Prelude.{◌≡◌};
 ghost use Rattle.std.specs.Option.{option_copied};
 ghost use Rattle.og_check.specs.Cores as spec;
 ghost use Rattle.og_check.specs.Names.{schemas_in};
+ghost use Rattle.og_check.specs.Results.{Gives, lent};
 ghost use Rattle.og_check.specs.Statements as statements;
-ghost use Rattle.og_check.specs.Steps.{Gives, lent};
 
 use crate::refusal::CheckRefusal;
 use og_value::{Catalog, Name, Schema, What};

@@ -4,7 +4,9 @@ ghost use Rattle.std.specs.List.{list_any};
 ghost use Rattle.std.specs.Str.{bytes_eq};
 ghost use Rattle.og_check.specs.Cores as spec;
 ghost use Rattle.og_check.specs.Names.{schemas_in};
-ghost use Rattle.og_check.specs.Steps.{Gives, in_order};
+ghost use Rattle.og_check.specs.Results.{Gives};
+ghost use Rattle.og_check.specs.Shown.{from_given, from_in};
+ghost use Rattle.og_check.specs.Steps.{in_order};
 
 use crate::conditions::{conds_of, where_of};
 use crate::names::{Names, alias_of, known_columns};
@@ -32,7 +34,7 @@ pub fn from_of<'a, C: Catalog>(
     names: Names,
     tables: &'a [FromText],
 ) -> Result<Joined<'a>, CheckRefusal>
-    ensures { Gives result (spec.from_of (schemas_in names (C.known known.now)) spec.no_tables tables.now) }
+    ensures { Gives (from_given result) (spec.from_of (schemas_in names (C.known known.now)) tables.now) }
 {
     let mut from = Joined {
         items: Items::new(alloc),
@@ -53,7 +55,7 @@ fn with_table<'a, C: Catalog>(
     from: Joined<'a>,
     table: &'a FromText,
 ) -> Result<Joined<'a>, CheckRefusal>
-    ensures { Gives result (spec.with_table (schemas_in names (C.known known.now)) from.entry table.now) }
+    ensures { Gives (from_given result) (spec.with_table (schemas_in names (C.known known.now)) (from_in from.entry) table.now) }
 {
     let mut from = from;
     let columns = known_columns(known, names, &table.name)?;

@@ -1,11 +1,12 @@
 use Rattle.std.proofs.Common.{◌∙◌, sym, ap}
 use Rattle.std.proofs.lemmas.Result.{err_from_is_err_and}
+use Rattle.og_check.specs.Statements.{with_set}
+use Rattle.og_check.specs.Steps.{in_turn}
 use Rattle.og_check.proofs.StepLemmas.{turn_next, turn_stop, turn_done}
-use Rattle.og_check.specs.Statements.{with_set, sets_of}
 use Rattle.og_check.proofs.changes.sets_of.Goals as goal
 
 pub each-init : goal.each-init
-each-init c = ap (λ before. sets_of c.args.sight.now before c.args.sets.now) c.new-typed.ensures
+each-init c = ap (λ before. in_turn (with_set c.args.sight.now) before c.args.sets.now) c.new-typed.ensures
 
 pub returns : goal.returns
 returns c = sym c.each.invariant ∙ turn_done (with_set c.args.sight.now) c.each.typed _ c.each.set-index c.each-test.false

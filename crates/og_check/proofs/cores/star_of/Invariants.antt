@@ -1,7 +1,8 @@
 use Rattle.std.proofs.Common.{◌≡◌, drop, length}
 use Rattle.og_check.specs.Cores.{star_from}
+use Rattle.og_check.specs.Fronts.{parted, with_fronts}
 use Rattle.og_check.specs.Sight.{joined}
-use Rattle.og_check.specs.Steps.{pure, parted, with_fronts}
+use Rattle.og_check.specs.Steps.{pure}
 use Rattle.og_check.proofs.cores.star_of.Given as goal
 
 abbrev pub invariant-items : goal.invariant-items

@@ -1,6 +1,7 @@
 use Rattle.std.proofs.Common.{◌≡◌, drop, length}
 use Rattle.og_check.specs.Cores.{star_from}
-use Rattle.og_check.specs.Steps.{pure, with_fronts}
+use Rattle.og_check.specs.Fronts.{with_fronts}
+use Rattle.og_check.specs.Steps.{pure}
 use Rattle.og_check.proofs.cores.with_columns.Given as goal
 
 abbrev pub invariant-columns : goal.invariant-columns

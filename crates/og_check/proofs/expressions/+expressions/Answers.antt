@@ -1,7 +1,8 @@
 use Rattle.std.proofs.Common.{◌∙◌, ap, map, sym}
 use Rattle.std.proofs.lemmas.Result.{err_from_is_err_and}
 use Rattle.og_check.specs.Expressions.{expr_of}
-use Rattle.og_check.specs.Steps.{in_order, parted}
+use Rattle.og_check.specs.Fronts.{parted}
+use Rattle.og_check.specs.Steps.{in_order}
 use Rattle.og_check.proofs.StepLemmas.{pair_next, pair_stop, pair_done}
 use Rattle.og_check.proofs.expressions.+expressions.Goals as goal
 

@@ -1,6 +1,7 @@
 use Rattle.std.proofs.Common.{◌≡◌, drop, map}
 use Rattle.og_check.specs.Expressions.{expr_of}
-use Rattle.og_check.specs.Steps.{in_order, parted, with_fronts}
+use Rattle.og_check.specs.Fronts.{parted, with_fronts}
+use Rattle.og_check.specs.Steps.{in_order}
 use Rattle.og_check.proofs.expressions.+expressions.Given as goal
 
 abbrev pub invariant-args_of-each : goal.invariant-args_of-each

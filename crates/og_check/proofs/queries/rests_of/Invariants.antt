@@ -1,6 +1,7 @@
 use Rattle.std.proofs.Common.{◌≡◌, drop, map}
 use Rattle.og_check.specs.Cores.{rest_of}
-use Rattle.og_check.specs.Steps.{in_order, with_front}
+use Rattle.og_check.specs.Fronts.{with_front}
+use Rattle.og_check.specs.Steps.{in_order}
 use Rattle.og_check.specs.Names.{schemas_in}
 use Rattle.og_check.proofs.queries.rests_of.Given as goal
 
