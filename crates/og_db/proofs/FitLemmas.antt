@@ -16,7 +16,7 @@ use Rattle.og_value.specs.declared.value.Value.{Value}
 use Rattle.og_value.specs.declared.value.Value.TheVariants as v
 use Rattle.og_rel.specs.Relations.{HasDays, present, relation_at}
 use Rattle.og_ops.proofs.DayLemmas.{some_day}
-use Rattle.og_query.specs.Fits.{IsFitRow}
+use Rattle.og_query.specs.Fits.{IsFitRow, columns_of, schemas_of}
 use Rattle.og_query.specs.Kinds.{fixed_kind}
 use Rattle.og_query.proofs.QueryLemmas.{rows_ordered}
 use Rattle.og_db.specs.Database.{Relation, HaveKinds}
@@ -104,3 +104,17 @@ fit_of db name columns rows fit known is = at (found db name) (each db (recursio
       where
         inside : {A : Type 0} {a b : A} → Some a ≡ Some b → a ≡ b
         inside e = cc
+
+-- a name that is known has rows that fit its columns
+pub named_held : (db : List (Held Relation)) → All (λ h. HaveKinds h.columns h.rows) db → (name : List ℕ) (columns : List Column)
+    → schemas_of (known_of db) name ≡ Some columns → (rel : Relation) × (rows_of db name ≡ Some rel) × HaveKinds columns rel
+named_held db fit name columns known = at (found db name) refl known
+  where
+    at : (o : Option (Held Relation)) → found db name ≡ o → columns_of (option_map described o) ≡ Some columns
+        → (rel : Relation) × (rows_of db name ≡ Some rel) × HaveKinds columns rel
+    at None is known = cc
+    at (Some h) is known = (
+      h.rows,
+      ap (option_map (λ h. h.rows)) is,
+      fit_of db name columns h.rows fit (ap (λ o. option_map (λ k. k.1) (option_map described o)) is ∙ known) (ap (option_map (λ h. h.rows)) is),
+    )

@@ -1,4 +1,3 @@
-pub mod AnswerLemmas
 pub mod EntryLemmas
 pub mod FitLemmas
 pub mod SizeLemmas

@@ -1,5 +1,5 @@
 -- What statements make of a relation, and of its rows on a day.
-use Rattle.std.proofs.Common.{◌≡◌, ◌++◌, ◌≤◌, ◌+◌, ℕ, ℤ, Bool, true, false, cond, List, [], ◌∷◌, Some, fold, length, map, filter, set, if◌then◌else◌, refl, sym, ap, ap₂, ◌∙◌, subst, arith}
+use Rattle.std.proofs.Common.{◌≡◌, ◌++◌, ◌≤◌, ◌+◌, ℤ, Bool, true, false, List, [], ◌∷◌, Some, fold, length, map, filter, set, if◌then◌else◌, refl, sym, ap, ap₂, ◌∙◌, subst, arith}
 use Rattle.std.specs.Cmp.Lexicographic.{slice_cmp}
 use Rattle.std.specs.List.{All, AllByRecursion}
 use Rattle.std.proofs.lemmas.List.{length-append, length-map, map-set, set-get_or}
@@ -22,18 +22,13 @@ use Rattle.og_query.specs.Expressions.{meaning}
 use Rattle.og_query.specs.Fits.{IsFitRow, IsFitAssign}
 use Rattle.og_query.specs.Kinds.{fixed_kind, kind_in, kinds_of}
 use Rattle.og_query.specs.Queries.{Fixed}
-use Rattle.og_query.specs.declared.condition.Cond.{Cond}
-use Rattle.og_query.specs.declared.query.Query.{Query}
 use Rattle.og_query.specs.declared.typed.Assign.{Assign}
-use Rattle.og_query.specs.declared.typed.Typed.{Typed}
-use Rattle.og_query.specs.declared.typed.Typed.TheVariants as t
 use Rattle.og_query.proofs.KindLemmas.{value_has_its_kind}
 use Rattle.og_query.proofs.QueryLemmas.{rows_ordered}
 use Rattle.og_db.specs.Database.{Relation, HaveKinds}
 use Rattle.og_db.specs.Fits.{IsFitFixed}
 use Rattle.og_db.specs.Insertion.{on_all_days, all_days}
-use Rattle.og_db.specs.Held.{Held}
-use Rattle.og_db.specs.Statements.{World, assigned, ordinary_statement, size_after}
+use Rattle.og_db.specs.Statements.{assigned}
 
 -- rows that are present on all days are so on each
 present_on_all : (rows : List (List Value)) (d : ℤ) → IsRefDay d → present row_at (on_all_days rows) d ≡ map (λ row. row_at row d) rows
@@ -97,27 +92,3 @@ module _ (columns : List Column) where
 -- the order that rows have is that of their definition
 pub row_order_is : slice_cmp derived.cmp-value.it ≡ row_order
 row_order_is = λ i x y. slice_cmp (λ a b. values_ordered a b i) x y
-
--- a statement changes neither worlds nor sizes
-abbrev pub ChangesNothing : Typed → Type 0
-ChangesNothing stmt = ((d : ℤ) (world : World) → ordinary_statement d world stmt ≡ world) × ((sizes : List (Held ℕ)) → size_after sizes stmt ≡ sizes)
-
--- any but these six changes nothing
-pub others_change_nothing : (stmt : Typed) → ((name : List ℕ) (columns : List Column) → ¬ (stmt ≡ t.Create name columns)) → ((name : List ℕ) (rows : List (List Value)) → ¬ (stmt ≡ t.Insert name rows))
-    → ((name : List ℕ) (cond : Cond) → ¬ (stmt ≡ t.Delete name cond)) → ((name : List ℕ) (sets : List Assign) (cond : Cond) → ¬ (stmt ≡ t.Update name sets cond))
-    → ((name : List ℕ) → ¬ (stmt ≡ t.Drop name)) → ((name : List ℕ) (query : Query) → ¬ (stmt ≡ t.Keep name query)) → ChangesNothing stmt
-others_change_nothing (t.Create name columns) create insert delete update drops keep = absurd (create name columns refl)
-others_change_nothing (t.Insert name rows) create insert delete update drops keep = absurd (insert name rows refl)
-others_change_nothing (t.Delete name cond) create insert delete update drops keep = absurd (delete name cond refl)
-others_change_nothing (t.Update name sets cond) create insert delete update drops keep = absurd (update name sets cond refl)
-others_change_nothing (t.Drop name) create insert delete update drops keep = absurd (drops name refl)
-others_change_nothing (t.Keep name query) create insert delete update drops keep = absurd (keep name query refl)
-others_change_nothing t.Tables create insert delete update drops keep = ((λ d world. refl), (λ sizes. refl))
-others_change_nothing (t.PrintName name day) create insert delete update drops keep = ((λ d world. refl), (λ sizes. refl))
-others_change_nothing (t.PrintQuery query day) create insert delete update drops keep = ((λ d world. refl), (λ sizes. refl))
-others_change_nothing (t.Save name file) create insert delete update drops keep = ((λ d world. refl), (λ sizes. refl))
-others_change_nothing (t.OpenFile name file) create insert delete update drops keep = ((λ d world. refl), (λ sizes. refl))
-others_change_nothing (t.ImportFile name file) create insert delete update drops keep = ((λ d world. refl), (λ sizes. refl))
-others_change_nothing (t.Explain query) create insert delete update drops keep = ((λ d world. refl), (λ sizes. refl))
-others_change_nothing (t.Valid name day) create insert delete update drops keep = ((λ d world. refl), (λ sizes. refl))
-others_change_nothing (t.Live name query) create insert delete update drops keep = ((λ d world. refl), (λ sizes. refl))

@@ -1,16 +1,22 @@
 //! The names of a run and what they hold.
-ghost use Rattle.std.specs.Prelude.{◌≡◌, ◌++◌, ◌<◌, ℕ, ℤ, List, [], ◌∷◌, IfOk, OnOk, OnErr, length, map, slice_index_or};
+ghost use Rattle.std.specs.Prelude.{◌≡◌, ◌++◌, ◌<◌, ◌≤◌, ℕ, ℤ, List, [], ◌∷◌, Some, IfOk, OnOk, OnErr, length, map, slice_index_or};
 ghost use Rattle.std.specs.List.{All, IsDistinct};
 ghost use Rattle.std.specs.Str.{bytes_eq};
 ghost use Rattle.og_base.specs.Calendar.{IsRefDay};
+ghost use Rattle.og_rel.specs.Relations.{relation_at};
+ghost use Rattle.og_value.specs.Order.{row_order};
+ghost use Rattle.og_value.specs.Values.{row_at};
 ghost use Rattle.og_value.specs.declared.kind.What.TheVariants as what;
 ghost use Rattle.og_value.specs.declared.schema.Column.{Column};
-ghost use Rattle.og_query.specs.Fits.{IsFitRow, IsFitAssign, AreApart, IsNew, IsNamed};
+ghost use Rattle.og_query.specs.Fits.{IsFitRow, IsFitAssign, IsNew, schemas_of};
+ghost use Rattle.og_query.specs.Queries.{ordinary_query};
+ghost use Rattle.og_query.specs.Sizes.{query_size};
+ghost use Rattle.og_query.specs.declared.query.Query.{Query};
 ghost use Rattle.og_query.specs.declared.typed.Typed.TheVariants as t;
 ghost use Rattle.og_db.specs.Fits.{KeepsKinds};
 ghost use Rattle.og_db.specs.Held.{Held, known_of, rows_of, changed_at, without};
 ghost use Rattle.og_db.specs.Runs.{AreWithin, sizes_at};
-ghost use Rattle.og_db.specs.Statements.{ordinary_statement, size_after};
+ghost use Rattle.og_db.specs.Statements.{named_rows, named_sizes, ordinary_statement, size_after};
 ghost use Rattle.og_db.specs.Database.{Relation, HaveKinds, IsTableOf, AreKept, world_at};
 
 use crate::assignments::Assignments;
@@ -64,18 +70,24 @@ impl Db {
         ensures created { OnOk result (self.new ≡ self.old ++ record { name = name; what = what.Table; columns = schema; rows = [] } ∷ []) }
         ensures law { OnOk result ((d : ℤ) → IsRefDay d →
             world_at d self.new ≡ ordinary_statement d (world_at d self.old) (t.Create name schema)) }
+        ensures size { OnOk result (AreWithin (sizes_at self.new) (size_after (sizes_at self.old) (t.Create name schema))) }
         ensures refused { OnErr result (self.new ≡ self.old) }
     {
         let rel = Rel::new(*self.names.allocator());
         self.enter(name, What::Table, schema, rel)
     }
 
-    /// Adds a result with its rows, as the last name. Refused only for want of memory, and then
-    /// nothing has changed.
+    /// Adds a result with its rows, as the last name: where they are the answer of a query on every day, and
+    /// no more than its size, as KEEP does. Refused only for want of memory, and then nothing has changed.
     pub fn keep(&mut self, name: Name, schema: Schema, rel: Rel<Row>) -> Result<(), NoMemory>
         requires new { IsNew (known_of self.old) name }
         requires fits { HaveKinds schema rel }
         ensures kept { OnOk result (self.new ≡ self.old ++ record { name = name; what = what.Kept; columns = schema; rows = rel } ∷ []) }
+        ensures law { OnOk result ((query : Query) → schema ≡ query.first.schema →
+            ((d : ℤ) → IsRefDay d → relation_at row_order row_at rel d ≡ ordinary_query d (named_rows (world_at d self.old)) query) →
+            (d : ℤ) → IsRefDay d → world_at d self.new ≡ ordinary_statement d (world_at d self.old) (t.Keep name query)) }
+        ensures size { OnOk result ((query : Query) → schema ≡ query.first.schema → length rel ≤ query_size (named_sizes (sizes_at self.old)) query →
+            AreWithin (sizes_at self.new) (size_after (sizes_at self.old) (t.Keep name query))) }
         ensures refused { OnErr result (self.new ≡ self.old) }
     {
         self.enter(name, What::Kept, schema, rel)
@@ -221,14 +233,17 @@ impl Db {
     pub fn drop_name(&mut self, name: &Name)
         ensures dropped { self.new ≡ without name.now self.old }
         ensures law { (d : ℤ) → IsRefDay d → world_at d self.new ≡ ordinary_statement d (world_at d self.old) (t.Drop name.now) }
+        ensures size { AreWithin (sizes_at self.new) (size_after (sizes_at self.old) (t.Drop name.now)) }
     {
         let _ = self.names.len();
         self.names.shift_remove(name);
     }
 
-    /// The rows of each name fit its columns.
+    /// The rows of each name fit its columns, and so each name that is known has a relation whose rows do.
     pub fn rows_fit(&self)
-        ensures { All (λ h. HaveKinds h.columns h.rows) self.now }
+        ensures all { All (λ h. HaveKinds h.columns h.rows) self.now }
+        ensures held { (name : List ℕ) (columns : List Column) → schemas_of (known_of self.now) name ≡ Some columns →
+            (rel : Relation) × (rows_of self.now name ≡ Some rel) × HaveKinds columns rel }
     {
         let _ = &self.names;
     }

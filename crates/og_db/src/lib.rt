@@ -1,15 +1,13 @@
 //! Named relations: tables that statements change, and results that were kept.
 //!
 //! A `Db` is its names in the order of creation, each with what it is, its columns and a relation
-//! whose rows fit them. `create`, `insert`, `delete`, `update`, `drop_name` and `execute` make of
-//! it, where names and kinds fit, on every day what the ordinary statement makes of the rows of
-//! that day (specs/Statements.antt); where they are refused nothing has changed. After `execute` no
-//! name has more rows than its size (specs/Runs.antt). `answer` has on every day, for 1 to 64
-//! workers, the rows of the ordinary query over the rows of that day. `Db` is a `Catalog` of
-//! og_value and a `Tables` of og_rel.
+//! whose rows fit them. `create`, `insert`, `delete`, `update`, `keep` and `drop_name` make of it,
+//! where names and kinds fit, on every day what the ordinary statement makes of the rows of that day,
+//! with no more rows than its size (specs/Statements.antt); where they are refused nothing has
+//! changed. `keep` is given its rows: `Db` asks no query. The laws say what a list of such changes
+//! comes to (`IsWorldOf` in specs/Runs.antt). `Db` is a `Catalog` of og_value and a `Tables` of og_rel.
 //!
-//! No tests here: those of several workers stand in og_samples, and what scripts reach is tested by
-//! the cases.
+//! No tests here: scripts reach it, so the cases test it (docs/CASES.md).
 #![tactic(auto)]
 
 mod assignments;
@@ -18,7 +16,6 @@ mod holding;
 mod insertion;
 mod laws;
 mod sought;
-mod statements;
 
 pub use database::Db;
-pub use laws::{known_names, no_statements};
+pub use laws::{fitting_rows, found_names, known_names, no_statements, one_statement_more};

@@ -1,3 +1,4 @@
+pub mod AnswerLemmas
 pub mod EndLemmas
 pub mod LineLemmas
 pub mod OneRun
@@ -6,3 +7,5 @@ pub mod PutLemmas
 pub mod RecordLemmas
 pub mod RunLemmas
 pub mod StepLemmas
+pub mod TurnLemmas
+pub mod WorldSteps

@@ -1,5 +1,8 @@
 -- The words and the bytes of a source have one run.
-use Rattle.std.proofs.Common.{◌≡◌, ℕ, List, [], Option, Some, None, sym, ap, ◌∙◌, subst, arith}
+use Rattle.std.proofs.Common.{◌≡◌, ◌⊎◌, ◌∷◌, inl, inr, ⊎_elim, ℕ, Bool, true, false, List, [], Option, Some, None, codes, get_or, length, refl, sym, ap, ◌∙◌, subst, true≢false, arith}
+use Rattle.std.specs.Cmp.Lexicographic.{same_text}
+use Rattle.std.specs.Str.{bytes_eq}
+use Rattle.std.proofs.lemmas.Bool.{cases_lt}
 use Rattle.og_lex.specs.Faults as lexer
 use Rattle.og_lex.specs.Grammar.{IsLexed}
 use Rattle.og_lex.specs.declared.refusal.LexRefusal.{LexRefusal}
@@ -8,11 +11,13 @@ use Rattle.og_parse.specs.Script as parser
 use Rattle.og_parse.specs.declared.refusal.ParseRefusal.{ParseRefusal}
 use Rattle.og_parse.specs.declared.refusal.ParseRefusal.TheVariants as parses
 use Rattle.og_syntax.specs.declared.tree.Stmt.{Stmt}
-use Rattle.og_session.specs.Lines.{lex_line, parse_line}
-use Rattle.og_session.specs.Runs.{Run, IsDefinedRun, no_command, too_long, no_tokens, no_tree, not_built, is_run, IsTreeFault, AreTrees, refused, run_from, first_unbuilt}
+use Rattle.og_session.specs.Lines.{words_line, too_long_line, lex_line, parse_line}
+use Rattle.og_session.specs.Runs.{Run, IsDefinedRun, IsRun, IsCommand, no_command, too_long, no_tokens, no_tree, not_built, is_run, IsTreeFault, AreTrees, refused, run_from, first_unbuilt, max_source}
 
--- the laws of tokens and of trees: each is one, faults too, and where there is one of them there is none of the other
+-- the laws of tokens and of trees: there is one or a fault of them, each is one, faults too, and where there is one there is no fault
 pub record Laws : Type 0 where
+  pub some_list : (script : List ℕ) → ((tokens : List Token) × IsLexed script tokens) ⊎ ((fault : LexRefusal) × lexer.IsFirstFault script fault)
+  pub some_tree : (script : List ℕ) (tokens : List Token) → ((stmts : List Stmt) × parser.IsScript script tokens stmts) ⊎ ((fault : ParseRefusal) × parser.IsFirstFault script tokens fault)
   pub one_list : (script : List ℕ) (tokens others : List Token) → IsLexed script tokens → IsLexed script others → tokens ≡ others
   pub no_tokens : (script : List ℕ) (tokens : List Token) (fault : LexRefusal) → IsLexed script tokens → ¬ lexer.IsFirstFault script fault
   pub one_lex_fault : (script : List ℕ) (fault other : LexRefusal) → lexer.IsFirstFault script fault → lexer.IsFirstFault script other → fault ≡ other
@@ -20,7 +25,34 @@ pub record Laws : Type 0 where
   pub no_tree : (script : List ℕ) (tokens : List Token) (stmts : List Stmt) (fault : ParseRefusal) → parser.IsScript script tokens stmts → ¬ parser.IsFirstFault script tokens fault
   pub one_parse_fault : (script : List ℕ) (tokens : List Token) (fault other : ParseRefusal) → parser.IsFirstFault script tokens fault → parser.IsFirstFault script tokens other → fault ≡ other
 
+-- the words are the command run, or they are not
+run_or_not : (words : List (List ℕ)) → IsRun words ⊎ (¬ IsRun words)
+run_or_not [] = inr (λ e. cc e)
+run_or_not (word ∷ []) = at (bytes_eq word (codes "run")) refl
+  where
+    at : (b : Bool) → bytes_eq word (codes "run") ≡ b → IsRun (word ∷ []) ⊎ (¬ IsRun (word ∷ []))
+    at true is = inl (ap (λ w. w ∷ []) (same_text word (codes "run") (sym is)))
+    at false is = inr (λ e. true≢false (sym (ap (λ words. bytes_eq (get_or words 0 []) (codes "run")) e) ∙ is))
+run_or_not (word ∷ other ∷ words) = inr (λ e. cc e)
+
 module _ (laws : Laws) where
+  -- the words and the bytes of a source have a run
+  pub some_run : (words : List (List ℕ)) (source : List ℕ) → (run : Run) × IsDefinedRun words source run
+  some_run words source = ⊎_elim (λ is. ⊎_elim (λ long. (refused too_long_line 3, too_long is long refl)) (λ short. of_tokens (is, short)) (cases_lt max_source (length source))) (λ not. (refused words_line 2, no_command not refl)) (run_or_not words)
+    where
+      of_stmts : IsCommand words source → (stmts : List Stmt) → AreTrees source stmts → (o : Option ℕ) → first_unbuilt 1 stmts ≡ o → (run : Run) × IsDefinedRun words source run
+      of_stmts command stmts trees None built = (run_from 1 [] stmts, is_run command stmts trees built refl)
+      of_stmts command stmts trees (Some n) unbuilt = (refused (parse_line (parses.Syntax n)) 3, not_built command stmts trees n unbuilt refl)
+
+      of_trees : IsCommand words source → (tokens : List Token) → IsLexed source tokens → (run : Run) × IsDefinedRun words source run
+      of_trees command tokens lexed =
+          ⊎_elim (λ tree. of_stmts command tree.0 (tokens, lexed, tree.1) (first_unbuilt 1 tree.0) refl)
+          (λ fault. (refused (parse_line fault.0) 3, no_tree command fault.0 (tokens, lexed, fault.1) refl)) (laws.some_tree source tokens)
+
+      of_tokens : IsCommand words source → (run : Run) × IsDefinedRun words source run
+      of_tokens command =
+          ⊎_elim (λ list. of_trees command list.0 list.1) (λ fault. (refused (lex_line fault.0) 3, no_tokens command fault.0 fault.1 refl)) (laws.some_list source)
+
   -- a source has one list of trees at most
   one_trees : (source : List ℕ) (xs ys : List Stmt) → AreTrees source xs → AreTrees source ys → xs ≡ ys
   one_trees source xs ys (ts, lexed, tree) (us, other, last) =

@@ -12,24 +12,26 @@ use Rattle.og_query.specs.declared.query.Query.{Query}
 use Rattle.og_query.specs.declared.typed.Typed.{Typed}
 use Rattle.og_query.specs.declared.typed.Typed.TheVariants as t
 use Rattle.og_db.specs.Database.{Relation, world_at}
-use Rattle.og_db.specs.Held.{Held, described, found, made_of}
+use Rattle.og_exec.specs.Tables.{rows_at}
+use Rattle.og_db.specs.Held.{Held, described, found, made_of, rows_of}
 use Rattle.og_db.specs.Runs.{AreWithin, IsWorldOf, sizes_at}
 use Rattle.og_db.specs.Statements.{named_rows}
-use Rattle.og_db.proofs.WorldLemmas.{found-made_of}
+use Rattle.og_session.proofs.AnswerLemmas.{rows_at-world}
 use Rattle.og_session.specs.Output.{held_layout, layout, names_text, piece_of, records, what_word}
 
 -- the record of a name
 abbrev pub name_record : {V : Type 0} → Held V → List (List ℕ)
 name_record h = h.name ∷ what_word h.what ∷ []
 
-module _ (db : List (Held Relation)) (before : List Typed) (world : IsWorldOf db before) where
+module _ (found_at : (d : ℤ) (db : List (Held Relation)) (name : List ℕ) → found (world_at d db) name ≡ option_map (made_of (λ rel. relation_at row_order row_at rel d)) (found db name))
+    (db : List (Held Relation)) (before : List Typed) (world : IsWorldOf db before) where
   -- a PRINT of a name writes what the name holds on the day
   pub piece-name : (name : List ℕ) (day : ℤ) → IsRefDay day → held_layout (option_map (made_of (λ rel. relation_at row_order row_at rel day)) (found db name)) ≡ piece_of before (t.PrintName name day)
-  piece-name name day is = ap held_layout (sym (found-made_of (λ rel. relation_at row_order row_at rel day) db name)) ∙ ap (λ w. held_layout (found w name)) (world.worlds day is)
+  piece-name name day is = ap held_layout (sym (found_at day db name)) ∙ ap (λ w. held_layout (found w name)) (world.worlds day is)
 
   -- a PRINT of a query writes the ordinary answer on the day
-  pub piece-query : (query : Query) (day : ℤ) (rows : List Fixed) → IsRefDay day → rows ≡ ordinary_query day (named_rows (world_at day db)) query → layout query.first.schema rows ≡ piece_of before (t.PrintQuery query day)
-  piece-query query day rows is answer = ap (layout query.first.schema) (answer ∙ ap (λ w. ordinary_query day (named_rows w) query) (world.worlds day is))
+  pub piece-query : (query : Query) (day : ℤ) (rows : List Fixed) → IsRefDay day → rows ≡ ordinary_query day (rows_at (rows_of db) day) query → layout query.first.schema rows ≡ piece_of before (t.PrintQuery query day)
+  piece-query query day rows is answer = ap (layout query.first.schema) (answer ∙ ap (λ rows. ordinary_query day rows query) (rows_at-world found_at day db) ∙ ap (λ w. ordinary_query day (named_rows w) query) (world.worlds day is))
 
 module _ (f : Relation → List Fixed) where
   -- the layout of what is found
@@ -63,3 +65,22 @@ names-sizes (h ∷ hs) = ap (λ rs. name_record h ∷ rs) (names-sizes hs)
 -- TABLES writes the names of the database
 pub piece-tables : (db : List (Held Relation)) (before : List Typed) → IsWorldOf db before → names_text db ≡ piece_of before t.Tables
 piece-tables db before world = ap (λ rs. records ((codes "name" ∷ codes "what" ∷ []) ∷ rs)) (names-sizes db ∙ names-within (sizes_at db) _ world.sizes)
+
+-- any statement but these four writes nothing
+pub others_write_nothing : (before : List Typed) (stmt : Typed) → ((name : List ℕ) (day : ℤ) → ¬ (stmt ≡ t.PrintName name day)) → ((query : Query) (day : ℤ) → ¬ (stmt ≡ t.PrintQuery query day))
+    → ¬ (stmt ≡ t.Tables) → ((query : Query) → ¬ (stmt ≡ t.Explain query)) → piece_of before stmt ≡ []
+others_write_nothing before (t.PrintName name day) name_no query_no tables_no explain_no = absurd (name_no name day refl)
+others_write_nothing before (t.PrintQuery query day) name_no query_no tables_no explain_no = absurd (query_no query day refl)
+others_write_nothing before t.Tables name_no query_no tables_no explain_no = absurd (tables_no refl)
+others_write_nothing before (t.Explain query) name_no query_no tables_no explain_no = absurd (explain_no query refl)
+others_write_nothing before (t.Create name columns) name_no query_no tables_no explain_no = refl
+others_write_nothing before (t.Insert name rows) name_no query_no tables_no explain_no = refl
+others_write_nothing before (t.Delete name cond) name_no query_no tables_no explain_no = refl
+others_write_nothing before (t.Update name sets cond) name_no query_no tables_no explain_no = refl
+others_write_nothing before (t.Drop name) name_no query_no tables_no explain_no = refl
+others_write_nothing before (t.Keep name query) name_no query_no tables_no explain_no = refl
+others_write_nothing before (t.Save name file) name_no query_no tables_no explain_no = refl
+others_write_nothing before (t.OpenFile name file) name_no query_no tables_no explain_no = refl
+others_write_nothing before (t.ImportFile name file) name_no query_no tables_no explain_no = refl
+others_write_nothing before (t.Valid name day) name_no query_no tables_no explain_no = refl
+others_write_nothing before (t.Live name query) name_no query_no tables_no explain_no = refl

@@ -1,8 +1,9 @@
 -- What was put into a sink piece after piece, and how much of the whole it is where one of them is refused.
-use Rattle.std.proofs.Common.{◌≡◌, ◌++◌, ◌∷◌, ◌∙◌, ℕ, List, [], Option, Result, Ok, Err, map, take, drop, refl, sym, ap, ap₂, subst, append_assoc}
+use Rattle.std.proofs.Common.{◌≡◌, ◌++◌, ◌∷◌, ◌∙◌, ◌+◌, ◌<◌, ℕ, List, [], Option, Result, Ok, Err, get_or, length, map, take, drop, refl, sym, ap, ap₂, subst, append_assoc}
 use Rattle.std.specs.Io.KnownBytes.{Appends}
 use Rattle.std.proofs.KnownBytes.{Appends-nil, Appends-trans}
-use Rattle.std.proofs.lemmas.List.{take-append-drop, map-append}
+use Rattle.std.specs.List.{flat_map}
+use Rattle.std.proofs.lemmas.List.{append-nil, drop_more, take-append-drop, take_more, map-append}
 use Rattle.std.proofs.lemmas.Grind.{flat_map-append}
 use Rattle.csv.specs.Writing.{default_writer, row_text}
 use Rattle.og_base.specs.Told.{AppendsFront}
@@ -42,6 +43,10 @@ front_none (x ∷ xs) ys e = cc e
 back_none : (xs ys : List ℕ) → xs ++ ys ≡ [] → ys ≡ []
 back_none [] ys e = e
 back_none (x ∷ xs) ys e = cc e
+
+-- nothing was put yet of a piece
+pub none_of : (old : Option (List ℕ)) (piece : List ℕ) → AppendsFront old old piece
+none_of old piece = ([], (piece, refl), Appends-nil old)
 
 -- a front after what was put before it
 front_after : (old mid new : Option (List ℕ)) (before piece whole : List ℕ) → whole ≡ before ++ piece → Appends old mid before → AppendsFront mid new piece → AppendsFront old new whole
@@ -91,3 +96,20 @@ module _ (old mid new : Option (List ℕ)) (all rest block later : List Fixed) (
   block_refused refusal put =
       put_after old mid new (rows_text up.before) (rows_text rest) (rows_text all) (Err refusal) (ap rows_text up.whole ∙ rows_text-append up.before rest) up.written
       (put_within mid new (rows_text block) (rows_text later) (rows_text rest) refusal (ap rows_text parts ∙ rows_text-append block later) put)
+
+-- a list of which each has a text, put one after the other: those before this one were put
+module _ {A : Type 0} (text : A → List ℕ) (old mid new : Option (List ℕ)) (xs : List A) (i : ℕ) (x : A) (within : i < length xs) (is : x ≡ get_or xs i x)
+    (up : Appends old mid (flat_map text (take i xs))) where
+  -- one more
+  pub one_put : Appends mid new (text x) → Appends old new (flat_map text (take (i + 1) xs))
+  one_put put =
+      subst (Appends old new)
+      (sym (ap (flat_map text) (take_more xs i x within) ∙ flat_map-append text (take i xs) (get_or xs i x ∷ []) ∙ ap (λ t. flat_map text (take i xs) ++ t) (append-nil (text (get_or xs i x)) ∙ ap text (sym is))))
+      (Appends-trans old mid new (flat_map text (take i xs)) (text x) up put)
+
+  -- one that was refused
+  pub one_refused : (refusal : PutRefusal) → IsPut mid new (text x) (Err refusal) → IsPut old new (flat_map text xs) (Err refusal)
+  one_refused refusal put =
+      put_after old mid new (flat_map text (take i xs)) (flat_map text (drop i xs)) (flat_map text xs) (Err refusal)
+      (ap (flat_map text) (sym (take-append-drop i xs)) ∙ flat_map-append text (take i xs) (drop i xs)) up
+      (put_within mid new (text x) (flat_map text (drop (i + 1) xs)) (flat_map text (drop i xs)) refusal (ap (flat_map text) (drop_more xs i x within ∙ ap (λ y. y ∷ drop (i + 1) xs) (sym is))) put)

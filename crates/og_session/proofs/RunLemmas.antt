@@ -2,7 +2,7 @@
 use Rattle.std.proofs.Common.{◌≡◌, ◌++◌, ◌⊎◌, inl, inr, ◌≤◌, ℕ, suc, List, [], ◌∷◌, length, drop, Option, Ok, Err, refl, sym, ap, ◌∙◌, subst}
 use Rattle.std.proofs.lemmas.List.{append_assoc, append-nil, drop_all}
 use Rattle.std.specs.Io.KnownBytes.{Appends}
-use Rattle.std.proofs.KnownBytes.{Appends-trans}
+use Rattle.std.proofs.KnownBytes.{Appends-nil, Appends-trans}
 use Rattle.og_base.specs.Told.{IsPrefix}
 use Rattle.og_syntax.specs.declared.tree.Stmt.{Stmt}
 use Rattle.og_query.specs.declared.typed.Typed.{Typed}
@@ -125,3 +125,8 @@ turn-last stmts i db old now at end = (
   subst (λ r. IsUnreported r db (output_from [] at.before) [] 0) (sym (at.rest ∙ ap (run_from (suc i) at.before) (drop_all i stmts end)))
       (record { written = refl; state = at.state; last = refl; ended = refl }),
 )
+
+-- no statement was begun
+pub not_begun : (run : Run) (db : List (Held Relation)) (old : Option (List ℕ)) → IsWorldOf db [] → (text : List ℕ) × Appends old old text × RunEnds run db text (Err stops.NoMemory)
+not_begun run db old world =
+    ([], Appends-nil old, record { before = []; after = run.done; front = []; parts = refl; state = world; written = refl; begun = (next_piece [] run.done run.line, refl) })

@@ -13,7 +13,7 @@ use Rattle.og_plan.specs.PlanOf.{plan_of}
 use Rattle.og_plan.specs.Text.{plan_text}
 use Rattle.og_db.specs.Held.{Held, found}
 use Rattle.og_db.specs.Runs.{sizes_after}
-use Rattle.og_db.specs.Statements.{named_rows, world_of_day}
+use Rattle.og_db.specs.Statements.{named_rows, unbuilt, world_of_day}
 
 -- records, one after the other, as csv writes them
 unfoldable pub records : List (List (List ℕ)) → List ℕ
@@ -44,7 +44,17 @@ piece_of before (t.PrintName name day) = held_layout (found (world_of_day day be
 piece_of before (t.PrintQuery query day) = layout query.first.schema (ordinary_query day (named_rows (world_of_day day before)) query)
 piece_of before t.Tables = names_text (sizes_after before)
 piece_of before (t.Explain query) = plan_text (plan_of query)
-piece_of before _ = []
+piece_of before (t.Create name columns) = []
+piece_of before (t.Insert name tuples) = []
+piece_of before (t.Delete name cond) = []
+piece_of before (t.Update name sets cond) = []
+piece_of before (t.Drop name) = []
+piece_of before (t.Keep name query) = []
+piece_of before (t.Save name file) = unbuilt []
+piece_of before (t.OpenFile name file) = unbuilt []
+piece_of before (t.ImportFile name file) = unbuilt []
+piece_of before (t.Valid name day) = unbuilt []
+piece_of before (t.Live name query) = unbuilt []
 
 -- what statements write, one after the other, after those before them
 abbrev pub output_from : List Typed → List Typed → List ℕ

@@ -40,16 +40,25 @@ abbrev pub run_from : ℕ → List Typed → List Stmt → Run
 run_from n before [] = record { done = before; line = []; status = 0 }
 run_from n before (stmt ∷ stmts) = after_check n before (λ typed. run_from (suc n) (before ++ typed ∷ []) stmts) (checked (known_after before) stmt)
 
--- whether a statement runs: all do but those of files, VALID and LIVE
+-- whether a statement is built: all are but those of files, VALID and LIVE
 abbrev pub is_built : Stmt → Bool
+is_built (s.Create name columns) = true
+is_built (s.Insert name rows) = true
+is_built (s.Delete name cond) = true
+is_built (s.Update name sets cond) = true
+is_built (s.Drop name) = true
+is_built s.Tables = true
+is_built (s.Keep name query) = true
+is_built (s.PrintName name day) = true
+is_built (s.PrintQuery query day) = true
 is_built (s.Save name file) = false
 is_built (s.OpenFile name file) = false
 is_built (s.ImportFile name file) = false
+is_built (s.Explain query) = true
 is_built (s.Valid name day) = false
 is_built (s.Live name query) = false
-is_built _ = true
 
--- the number of the first statement that does not run, where the first of all has that number
+-- the number of the first statement that is not built, where the first of all has that number
 abbrev pub first_unbuilt : ℕ → List Stmt → Option ℕ
 first_unbuilt n [] = None
 first_unbuilt n (stmt ∷ stmts) = if is_built stmt then first_unbuilt (suc n) stmts else Some n
@@ -59,8 +68,8 @@ abbrev pub IsRun : List (List ℕ) → Type 0
 IsRun words = words ≡ codes "run" ∷ []
 
 -- the most bytes of a source
-abbrev pub source_limit : ℕ
-source_limit = 16_777_216
+abbrev pub max_source : ℕ
+max_source = 16_777_216
 
 -- the trees that the two grammars give the source
 abbrev pub AreTrees : List ℕ → List Stmt → Type 0
@@ -72,19 +81,19 @@ IsTreeFault source fault = (tokens : List Token) × IsLexed source tokens × par
 
 -- the words are the command run, and the source keeps its limit
 abbrev pub IsCommand : List (List ℕ) → List ℕ → Type 0
-IsCommand words source = IsRun words × (length source ≤ source_limit)
+IsCommand words source = IsRun words × (length source ≤ max_source)
 
 -- defined run of the words and the source's bytes
 pub data IsDefinedRun (words : List (List ℕ)) (source : List ℕ) (run : Run) : Type 0 where
   -- the words are no command
   no_command : ¬ IsRun words → run ≡ refused words_line 2 → IsDefinedRun words source run
   -- the source has too many bytes
-  too_long : IsRun words → source_limit < length source → run ≡ refused too_long_line 3 → IsDefinedRun words source run
+  too_long : IsRun words → max_source < length source → run ≡ refused too_long_line 3 → IsDefinedRun words source run
   -- the source has no tokens
   no_tokens : IsCommand words source → (fault : LexRefusal) → lexer.IsFirstFault source fault → run ≡ refused (lex_line fault) 3 → IsDefinedRun words source run
   -- the tokens have no tree
   no_tree : IsCommand words source → (fault : ParseRefusal) → IsTreeFault source fault → run ≡ refused (parse_line fault) 3 → IsDefinedRun words source run
-  -- a statement does not run
+  -- a statement is not built
   not_built : IsCommand words source → (stmts : List Stmt) → AreTrees source stmts → (n : ℕ) → first_unbuilt 1 stmts ≡ Some n → run ≡ refused (parse_line (parses.Syntax n)) 3 → IsDefinedRun words source run
-  -- the statements run, up to the first with a fault
+  -- the statements are built, and run up to the first with a fault
   is_run : IsCommand words source → (stmts : List Stmt) → AreTrees source stmts → first_unbuilt 1 stmts ≡ None → run ≡ run_from 1 [] stmts → IsDefinedRun words source run

@@ -2,15 +2,17 @@
 ghost use Rattle.std.specs.Prelude.{◌≡◌, ◌≤◌, ◌↔◌, [], ◌∷◌, IsTrue, ℕ, List, Ok, Err, Some, None, IfOk, IfErr, OnOk, OnErr, length};
 ghost use Rattle.std.specs.Io.KnownBytes.{Appends};
 ghost use Rattle.og_base.specs.Told.{Rose};
+ghost use Rattle.og_par.specs.Limits.{max_workers};
 ghost use Rattle.og_session.specs.Ends.{EndsUnreported, RunEnds, status_of};
 ghost use Rattle.og_session.specs.Headline.{IsTold, IsBeforeStatements};
-ghost use Rattle.og_session.specs.Runs.{IsRun, AreTrees, first_unbuilt, run_from, source_limit};
+ghost use Rattle.og_session.specs.Runs.{IsRun, AreTrees, first_unbuilt, run_from, max_source};
 ghost use Rattle.og_session.specs.Runs as spec;
 ghost use Rattle.og_session.specs.declared.fault.Fault.{Fault};
 ghost use Rattle.og_session.specs.declared.fault.Stop.{Stop};
 
 use crate::fault::{Fault, Stop};
 use crate::law::one_defined_run;
+use crate::moves::turned;
 use crate::source::read_source;
 use crate::step::step;
 use og_base::Words;
@@ -19,6 +21,7 @@ use og_io::{Sink, Source};
 use og_lex::lex;
 use og_parse::{Script, parse};
 use og_syntax::Stmt;
+use sqlite_items::Items;
 use std::alloc::Global;
 use std::thread::Threads;
 
@@ -28,11 +31,14 @@ pub fn carry_out<H: Threads + Sync, S: Source, K: Sink>(
     rt: &H,
     alloc: Global,
     words: &Words,
+    workers: usize,
     src: &mut S,
     out: &mut K,
     db: &mut Db,
 ) -> Result<(), Stop>
-    requires { db.old ≡ [] }
+    requires least { 1 ≤ workers }
+    requires most { workers ≤ max_workers }
+    requires empty { db.old ≡ [] }
     ensures told { (source : List ℕ) → IsTold words.now (S.left src.old) source →
         (text : List ℕ) × Appends (K.written out.old) (K.written out.new) text × EndsUnreported words.now source db.new text result }
     ensures words { (result ≡ Err (Stop.Fault Fault.Words)) ↔ (¬ IsRun words.now) }
@@ -48,7 +54,7 @@ pub fn carry_out<H: Threads + Sync, S: Source, K: Sink>(
         return Err(Stop::Fault(Fault::Words));
     }
     let bytes = read_source(alloc, src)?;
-    run_bytes(rt, alloc, bytes.as_slice(), out, db)
+    run_bytes(rt, alloc, bytes.as_slice(), workers, out, db)
 }
 
 // Whether the words are the command run.
@@ -63,10 +69,13 @@ fn run_bytes<H: Threads + Sync, K: Sink>(
     rt: &H,
     alloc: Global,
     bytes: &[u8],
+    workers: usize,
     out: &mut K,
     db: &mut Db,
 ) -> Result<(), Stop>
-    requires small { length bytes.now ≤ source_limit }
+    requires least { 1 ≤ workers }
+    requires most { workers ≤ max_workers }
+    requires small { length bytes.now ≤ max_source }
     requires empty { db.old ≡ [] }
     ensures ends { (words : List (List ℕ)) → IsRun words →
         (text : List ℕ) × Appends (K.written out.old) (K.written out.new) text × EndsUnreported words bytes.now db.new text result }
@@ -82,12 +91,12 @@ fn run_bytes<H: Threads + Sync, K: Sink>(
     if let Some(statement) = first_unbuilt(script.stmts.as_slice()) {
         return Err(Stop::Fault(Fault::Syntax { statement }));
     }
-    run_statements(rt, alloc, script.stmts.as_slice(), out, db)
+    run_statements(rt, alloc, script.stmts, workers, out, db)
 }
 
 // The tree of the bytes.
 fn tree_of(alloc: Global, bytes: &[u8]) -> Result<Script, Stop>
-    requires { length bytes.now ≤ source_limit }
+    requires { length bytes.now ≤ max_source }
     ensures tree { IfOk result (λ tree. AreTrees bytes.now tree.stmts) }
     ensures stopped { (words : List (List ℕ)) → IsRun words → IfErr result (λ stop. EndsUnreported words bytes.now [] [] (Err stop)) }
     ensures words { result ≡ Err (Stop.Fault Fault.Words) → ⊥ }
@@ -126,22 +135,28 @@ fn is_built(stmt: &Stmt) -> bool
     )
 }
 
-// Runs the statements in order, up to the first with a fault.
+// Runs the statements, which are built, in order, up to the first with a fault. Each is gone once it is
+// carried out.
 fn run_statements<H: Threads + Sync, K: Sink>(
     rt: &H,
     alloc: Global,
-    stmts: &[Stmt],
+    stmts: Items<Stmt>,
+    workers: usize,
     out: &mut K,
     db: &mut Db,
 ) -> Result<(), Stop>
-    requires { db.old ≡ [] }
-    ensures ends { (text : List ℕ) × Appends (K.written out.old) (K.written out.new) text × RunEnds (run_from 1 [] stmts.now) db.new text result }
+    requires least { 1 ≤ workers }
+    requires most { workers ≤ max_workers }
+    requires built { spec.first_unbuilt 1 stmts ≡ None }
+    requires empty { db.old ≡ [] }
+    ensures ends { (text : List ℕ) × Appends (K.written out.old) (K.written out.new) text × RunEnds (run_from 1 [] stmts) db.new text result }
     ensures write_fault { result ≡ Err Stop.WriteFault → Rose (K.faults out.old) (K.faults out.new) }
     ensures later { K.faults out.old ≤ K.faults out.new }
 {
     no_statements();
-    'stmts: for place in 0..stmts.len() {
-        step(rt, alloc, place + 1, &stmts[place], out, db)?;
+    let mut left = turned(alloc, stmts)?;
+    'stmts: for place in 0..left.len() {
+        step(rt, alloc, place + 1, &mut left, workers, out, db)?;
     }
     Ok(())
 }

@@ -12,9 +12,12 @@
 //! examples/.
 #![tactic(auto)]
 
+mod answer;
 mod carry;
+mod execute;
 mod fault;
 mod law;
+mod moves;
 mod pieces;
 mod puts;
 mod records;
@@ -22,4 +25,6 @@ mod session;
 mod source;
 mod step;
 
+pub use law::one_defined_run;
 pub use session::run;
+pub use source::MAX_SOURCE;

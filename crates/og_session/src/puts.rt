@@ -1,13 +1,16 @@
 //! Pieces of output, put into a sink.
 ghost use Rattle.std.specs.Prelude.{◌≡◌, ◌≤◌, map, Err};
+ghost use Rattle.std.specs.List.{flat_map};
 ghost use Rattle.og_base.specs.Told.{Rose};
 ghost use Rattle.og_io.specs.declared.sink.PutRefusal.{PutRefusal};
 ghost use Rattle.og_value.specs.Cells.{fixed_text};
+ghost use Rattle.og_plan.specs.Text.{line_text};
 ghost use Rattle.og_session.specs.Output.{layout, records};
 ghost use Rattle.og_session.specs.Puts.{IsPut};
 
 use crate::records::{header_text, rows_text};
 use og_io::{PutRefusal, Sink};
+use og_plan::PlanLine;
 use og_value::{FixedRow, Schema};
 use std::alloc::Global;
 
@@ -65,5 +68,27 @@ fn put_block<K: Sink>(alloc: Global, rows: &[FixedRow], out: &mut K) -> Result<(
     ensures failed { result ≡ Err PutRefusal.Failed → Rose (K.faults out.old) (K.faults out.new) }
 {
     let text = rows_text(alloc, rows)?;
+    put(text.as_slice(), out)
+}
+
+/// Puts the lines of a plan, one after the other.
+pub fn put_lines<K: Sink>(alloc: Global, lines: &[PlanLine], out: &mut K) -> Result<(), PutRefusal>
+    ensures put { IsPut (K.written out.old) (K.written out.new) (flat_map line_text lines.now) result }
+    ensures later { K.faults out.old ≤ K.faults out.new }
+    ensures failed { result ≡ Err PutRefusal.Failed → Rose (K.faults out.old) (K.faults out.new) }
+{
+    'lines: for line in lines {
+        put_line(alloc, line, out)?;
+    }
+    Ok(())
+}
+
+// Puts a line of a plan.
+fn put_line<K: Sink>(alloc: Global, line: &PlanLine, out: &mut K) -> Result<(), PutRefusal>
+    ensures put { IsPut (K.written out.old) (K.written out.new) (line_text line.now) result }
+    ensures later { K.faults out.old ≤ K.faults out.new }
+    ensures failed { result ≡ Err PutRefusal.Failed → Rose (K.faults out.old) (K.faults out.new) }
+{
+    let text = line.text(alloc)?;
     put(text.as_slice(), out)
 }

@@ -2,6 +2,7 @@
 ghost use Rattle.std.specs.Prelude.{◌≡◌, ◌≤◌, ◌⊎◌, [], ℕ, List, Some, Err, OnOk, OnErr, string_bytes};
 ghost use Rattle.std.specs.Io.KnownBytes.{Appends};
 ghost use Rattle.og_base.specs.Told.{Rose, AppendsFront};
+ghost use Rattle.og_par.specs.Limits.{max_workers};
 ghost use Rattle.og_io.specs.declared.sink.PutRefusal.{PutRefusal};
 ghost use Rattle.og_session.specs.Ends.{Ends, fault_line, status_of};
 ghost use Rattle.og_session.specs.Headline.{IsTold, IsAnswer, IsBeforeStatements, IsStopped, IsAsDefined, HasOutput, HasState, HasStop};
@@ -18,6 +19,9 @@ use og_db::Db;
 use og_io::{PutRefusal, Sink, Source};
 use std::alloc::Global;
 use std::thread::Threads;
+
+// How many workers share out the work of a statement.
+const WORKERS: usize = 1;
 
 /// Runs the command that the words are over a database without names: `run` reads the source to its
 /// end as a script, carries out its statements in order, and writes what they print, each PRINT as of
@@ -66,7 +70,7 @@ pub fn run<H: Threads + Sync, S: Source, K: Sink>(
         (result ≡ 9) ⊎ IsAsDefined words.now source result }
 {
     one_defined_run();
-    let end = run_to_end(rt, alloc, words, src, out, db);
+    let end = run_to_end(rt, alloc, words, WORKERS, src, out, db);
     status_of(&end)
 }
 
@@ -75,11 +79,14 @@ fn run_to_end<H: Threads + Sync, S: Source, K: Sink>(
     rt: &H,
     alloc: Global,
     words: &Words,
+    workers: usize,
     src: &mut S,
     out: &mut K,
     db: &mut Db,
 ) -> Result<(), Stop>
-    requires { db.old ≡ [] }
+    requires least { 1 ≤ workers }
+    requires most { workers ≤ max_workers }
+    requires empty { db.old ≡ [] }
     ensures told { (source : List ℕ) → IsTold words.now (S.left src.old) source →
         (text : List ℕ) × Appends (K.written out.old) (K.written out.new) text × Ends words.now source db.new text result }
     ensures drained { (source : List ℕ) → IsRun words.now → S.left src.old ≡ Some source → OnOk result (S.left src.new ≡ Some []) }
@@ -91,7 +98,7 @@ fn run_to_end<H: Threads + Sync, S: Source, K: Sink>(
     ensures no_names { IsBeforeStatements (status_of result) → db.new ≡ [] }
 {
     one_defined_run();
-    let end = carry_out(rt, alloc, words, src, out, db);
+    let end = carry_out(rt, alloc, words, workers, src, out, db);
     let Some(fault) = fault_of(&end) else {
         return end;
     };

@@ -1,7 +1,7 @@
 //! Reads the source to its end.
 ghost use Rattle.std.specs.Prelude.{◌≡◌, ◌≤◌, ℕ, List, Some, Err, IfOk, length};
 ghost use Rattle.og_base.specs.Told.{Rose};
-ghost use Rattle.og_session.specs.Runs.{source_limit};
+ghost use Rattle.og_session.specs.Runs.{max_source};
 ghost use Rattle.og_session.specs.Reading.{IsReading};
 
 use og_io::Source;
@@ -9,7 +9,7 @@ use std::alloc::Global;
 use thiserror::Error;
 
 /// The most bytes of a source.
-pub const SOURCE_LIMIT: usize = 16_777_216;
+pub const MAX_SOURCE: usize = 16_777_216;
 
 // The most bytes that one call asks for.
 const PART: usize = 65_536;
@@ -17,7 +17,7 @@ const PART: usize = 65_536;
 /// Why a source was not read to its end.
 #[derive(Clone, Copy, Debug, PartialEq, Eq, Error)]
 pub enum SourceRefusal {
-    /// More than `SOURCE_LIMIT` bytes came.
+    /// More than `MAX_SOURCE` bytes came.
     #[error("more bytes came than a source may have")]
     TooLong,
     /// The source failed.
@@ -28,17 +28,17 @@ pub enum SourceRefusal {
     NoMemory,
 }
 
-/// The bytes of the source, read to its end. `TooLong` comes as soon as a byte past `SOURCE_LIMIT` has come,
-/// so the source is asked for bytes at most `SOURCE_LIMIT + 1` times.
+/// The bytes of the source, read to its end. `TooLong` comes as soon as a byte past `MAX_SOURCE` has come,
+/// so the source is asked for bytes at most `MAX_SOURCE + 1` times.
 pub fn read_source<S: Source>(alloc: Global, src: &mut S) -> Result<Vec<u8>, SourceRefusal>
     ensures told { (bytes : List ℕ) → S.left src.old ≡ Some bytes → IsReading bytes (S.left src.new) result }
-    ensures small { IfOk result (λ v. length v.items ≤ source_limit) }
+    ensures small { IfOk result (λ v. length v.items ≤ max_source) }
     ensures later { S.faults src.old ≤ S.faults src.new }
     ensures failed { result ≡ Err SourceRefusal.Failed → Rose (S.faults src.old) (S.faults src.new) }
 {
     let mut bytes = Vec::new(alloc);
     let mut part = [0u8; PART];
-    'parts: for _ in 0..SOURCE_LIMIT + 1 {
+    'parts: for _ in 0..MAX_SOURCE + 1 {
         let Ok(count) = src.next(&mut part) else {
             return Err(SourceRefusal::Failed);
         };
@@ -48,7 +48,7 @@ pub fn read_source<S: Source>(alloc: Global, src: &mut S) -> Result<Vec<u8>, Sou
         let Ok(()) = bytes.extend_from_slice(&part[..count]) else {
             return Err(SourceRefusal::NoMemory);
         };
-        if bytes.len() > SOURCE_LIMIT {
+        if bytes.len() > MAX_SOURCE {
             return Err(SourceRefusal::TooLong);
         }
     }

@@ -1,8 +1,8 @@
-use Rattle.std.proofs.Common.{◌≡◌, rules, refl, inl, sym, ap, ◌∙◌, subst, Some, None, Result, Err}
+use Rattle.std.proofs.Common.{◌≡◌, rules, refl, inl, sym, subst, Some, None, Result, Err}
 use Rattle.std.proofs.lemmas.Result.{err_from_is_err_and}
 use Rattle.og_session.specs.Ends.{status_of}
 use Rattle.og_session.specs.Headline.{IsBeforeStatements}
-use Rattle.og_session.specs.Runs.{AreTrees, first_unbuilt}
+use Rattle.og_session.specs.Runs.{first_unbuilt}
 use Rattle.og_session.specs.declared.fault.Fault.TheVariants as faults
 use Rattle.og_session.specs.declared.fault.Stop.{Stop}
 use Rattle.og_session.specs.declared.fault.Stop.TheVariants as stops
@@ -23,20 +23,19 @@ returns-in-Some-clause-ends g c words run =
 pub returns-clause-ends : goal.returns-clause-ends
 returns-clause-ends g c words run =
     let h = c.run_statements.ensures.ends in
-    let same : c.as_slice-2.result.now ≡ c.in_ok-script.script.stmts = search rules in
     let built : first_unbuilt 1 c.in_ok-script.script.stmts ≡ None = search rules in (
       h.0,
       h.1,
-      run_ends c.one_defined_run.ensures words c.args.bytes.now c.as_slice-2.result.now c.run_statements.new.db h.0 c.run_statements.result (run, c.requires.small)
-          (subst (AreTrees c.args.bytes.now) (sym same) c.in_ok-script.ensures.tree) (ap (first_unbuilt 1) same ∙ built) h.2,
+      run_ends c.one_defined_run.ensures.one words c.args.bytes.now c.in_ok-script.script.stmts c.run_statements.new.db h.0 c.run_statements.result (run, c.requires.small)
+          c.in_ok-script.ensures.tree built h.2,
     )
 
 pub returns-clause-words : goal.returns-clause-words
 returns-clause-words g c e =
     let h = c.run_statements.ensures.ends in
-    run_begun c.as_slice-2.result.now c.run_statements.new.db h.0 c.run_statements.result h.2 (subst (λ (r : Result (Unit {0}) Stop). IsBeforeStatements (status_of r)) (sym e) (inl refl))
+    run_begun c.in_ok-script.script.stmts c.run_statements.new.db h.0 c.run_statements.result h.2 (subst (λ (r : Result (Unit {0}) Stop). IsBeforeStatements (status_of r)) (sym e) (inl refl))
 
 pub returns-clause-no_names : goal.returns-clause-no_names
 returns-clause-no_names g c early =
     let h = c.run_statements.ensures.ends in
-    run_begun c.as_slice-2.result.now c.run_statements.new.db h.0 c.run_statements.result h.2 early
+    run_begun c.in_ok-script.script.stmts c.run_statements.new.db h.0 c.run_statements.result h.2 early

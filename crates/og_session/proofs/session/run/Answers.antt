@@ -5,7 +5,7 @@ pub returns-clause-status : goal.returns-clause-status
 returns-clause-status g c source told = let e = c.run_to_end-end.ensures.told source told in rw c.status_of.ensures (has_status _ _ _ e.0 _ e.2)
 
 pub returns-clause-output : goal.returns-clause-output
-returns-clause-output g c source told = let e = c.run_to_end-end.ensures.told source told in (e.0, e.1, rw c.status_of.ensures (has_output c.one_defined_run.ensures _ _ _ e.0 _ e.2))
+returns-clause-output g c source told = let e = c.run_to_end-end.ensures.told source told in (e.0, e.1, rw c.status_of.ensures (has_output c.one_defined_run.ensures.one _ _ _ e.0 _ e.2))
 
 pub returns-clause-state : goal.returns-clause-state
 returns-clause-state g c source told = let e = c.run_to_end-end.ensures.told source told in rw c.status_of.ensures (has_state _ _ _ e.0 _ e.2)

@@ -12,7 +12,7 @@ pub returns-in_err-report-clause-told : goal.returns-in_err-report-clause-told
 returns-in_err-report-clause-told g c source told =
     let p = err_from_is_err_and c.from_residual.result c.from_residual.ensures.1 in
     let e = c.carry_out-end.ensures.told source told in
-    rw (p.1, p.2) (ends_unsaid c.one_defined_run.ensures _ source _ _ _ _ c.in-Some.fault.now c.in_err-report.field-0.0
+    rw (p.1, p.2) (ends_unsaid c.one_defined_run.ensures.one _ source _ _ _ _ c.in-Some.fault.now c.in_err-report.field-0.0
     (e.0, e.1, subst (λ (r : Result (Unit {0}) Stop). EndsUnreported c.args.words.now source c.carry_out-end.new.db e.0 r) c.in-Some.ensures.fault e.2)
     c.in_err-report.ensures.refused (λ failed. c.in_err-report.ensures.some (ap Err failed)))
 

@@ -20,7 +20,7 @@ put-requires g c =
     let t = c.requires.table in
     let rel = c.in-Some.rel.now in
     let is = ap (rows_of c.args.self.now) (sym c.bytes.ensures) ∙ sym c.in-Some.ensures in
-    let fit = fit_of c.args.self.now c.args.name.now t.0 rel c.rows_fit.ensures (ap (option_map (λ k. k.1)) t.1) is in
+    let fit = fit_of c.args.self.now c.args.name.now t.0 rel c.rows_fit.ensures.all (ap (option_map (λ k. k.1)) t.1) is in
     let law = subst (λ cmp. (d : ℤ) → IsRefDay d → relation_at cmp row_at c.in_ok-changed.changed d ≡ g.O.UnaryOp.plain c.args.op.now d (relation_at cmp row_at rel d)) row_order_is c.in_ok-changed.ensures.law in (
       t.0,
       t.1,

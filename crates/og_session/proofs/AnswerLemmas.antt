@@ -1,4 +1,4 @@
--- Queries over a database: that its tables are there, and what their answers are made of.
+-- Queries over named relations: that their rows fit on each day, and what answers are made of.
 use Rattle.std.proofs.Common.{◌≡◌, ◌++◌, ℕ, ℤ, not, List, [], ◌∷◌, Option, Some, None, map, filter, fold, length, refl, sym, ap, ap₂, ◌∙◌, subst}
 use Rattle.std.specs.List.{All, AllByRecursion, flat_map}
 use Rattle.std.specs.Option.{option_map}
@@ -17,7 +17,7 @@ use Rattle.og_value.specs.declared.term.SetOp.TheVariants as op
 use Rattle.og_rel.specs.Algebra.{is_in}
 use Rattle.og_rel.specs.Relations.{relation_at}
 use Rattle.og_query.specs.Combinations.{combinations}
-use Rattle.og_query.specs.Fits.{Schemas, core_kinds, columns_of, schemas_of, table_columns_of, IsAsNamed, IsFit, IsFitAssign, IsFitCore, IsFitRest, IsFitQuery}
+use Rattle.og_query.specs.Fits.{Known, Schemas, core_kinds, schemas_of, table_columns_of, IsAsNamed, IsFit, IsFitAssign, IsFitCore, IsFitRest, IsFitQuery}
 use Rattle.og_query.specs.Kinds.{fixed_kind, kind_in, kinds_of}
 use Rattle.og_query.specs.Queries.{Fixed, Named, image, is_kept, core_rows, combined, ordinary_query}
 use Rattle.og_query.specs.declared.condition.Cond.{Cond}
@@ -30,29 +30,31 @@ use Rattle.og_query.specs.declared.typed.Assign.{Assign}
 use Rattle.og_query.specs.declared.typed.Typed.TheVariants as t
 use Rattle.og_query.proofs.KindLemmas.{value_has_its_kind}
 use Rattle.og_plan.specs.Premises.{FitRows, HaveFitRows, AllHaveFitRows}
-use Rattle.og_exec.specs.Tables.{IsThere, rows_at, rows_or_none, size_or_none, sizes_of}
-use Rattle.og_db.specs.Database.{Relation, HaveKinds, IsTableOf, world_at}
-use Rattle.og_db.specs.Held.{Held, described, found, known_of, rows_of}
+use Rattle.og_exec.specs.Tables.{Relations, rows_at, rows_or_none, size_or_none, sizes_of}
+use Rattle.og_db.specs.Database.{Relation, HaveKinds, world_at}
+use Rattle.og_db.specs.Fits.{IsFitFixed}
+use Rattle.og_db.specs.Held.{Held, found, made_of, rows_of}
 use Rattle.og_db.specs.Runs.{sizes_at}
 use Rattle.og_db.specs.Statements.{or_else, named_rows, named_sizes}
-use Rattle.og_db.proofs.FitLemmas.{fit_of, fit_on_day}
-use Rattle.og_db.proofs.WorldLemmas.{named-made_of}
+use Rattle.og_session.specs.Answers.{AreHeld}
 
 -- the rows of a day of each name are those of the world of that day
-pub rows_at-world : (d : ℤ) (db : List (Held Relation)) → rows_at (rows_of db) d ≡ named_rows (world_at d db)
-rows_at-world d db = λ i name. (none_or (rows_of db name) ∙ sym (named-made_of (λ rel. relation_at row_order row_at rel d) [] db name)) i
+pub rows_at-world : ((d : ℤ) (db : List (Held Relation)) (name : List ℕ) → found (world_at d db) name ≡ option_map (made_of (λ rel. relation_at row_order row_at rel d)) (found db name))
+    → (d : ℤ) (db : List (Held Relation)) → rows_at (rows_of db) d ≡ named_rows (world_at d db)
+rows_at-world found_at d db = λ i name. (same (found db name) ∙ ap (λ o. or_else [] (option_map (λ h. h.rows) o)) (sym (found_at d db name))) i
   where
-    none_or : (o : Option Relation) → rows_or_none o d ≡ or_else [] (option_map (λ rel. relation_at row_order row_at rel d) o)
-    none_or None = refl
-    none_or (Some rel) = refl
+    same : (o : Option (Held Relation)) → rows_or_none (option_map (λ h. h.rows) o) d ≡ or_else [] (option_map (λ h. h.rows) (option_map (made_of (λ rel. relation_at row_order row_at rel d)) o))
+    same None = refl
+    same (Some h) = refl
 
 -- and so are the sizes of the names
-pub sizes_of-names : (db : List (Held Relation)) → sizes_of (rows_of db) ≡ named_sizes (sizes_at db)
-sizes_of-names db = λ i name. (none_or (rows_of db name) ∙ sym (named-made_of length 0 db name)) i
+pub sizes_of-names : ((db : List (Held Relation)) (name : List ℕ) → found (sizes_at db) name ≡ option_map (made_of length) (found db name))
+    → (db : List (Held Relation)) → sizes_of (rows_of db) ≡ named_sizes (sizes_at db)
+sizes_of-names found_in db = λ i name. (same (found db name) ∙ ap (λ o. or_else 0 (option_map (λ h. h.rows) o)) (sym (found_in db name))) i
   where
-    none_or : (o : Option Relation) → size_or_none o ≡ or_else 0 (option_map length o)
-    none_or None = refl
-    none_or (Some rel) = refl
+    same : (o : Option (Held Relation)) → size_or_none (option_map (λ h. h.rows) o) ≡ or_else 0 (option_map (λ h. h.rows) (option_map (made_of length) o))
+    same None = refl
+    same (Some h) = refl
 
 -- what is known as a table of these columns
 pub table_known : (o : Option (What × List Column)) (columns : List Column) → table_columns_of o ≡ Some columns → o ≡ Some (what.Table, columns)
@@ -62,38 +64,27 @@ table_known (Some (what.Live, others)) columns e = cc
 table_known None columns e = cc
 
 -- the table of an UPDATE that fits, and its assignments
-pub update_fits : (db : List (Held Relation)) (name : List ℕ) (sets : List Assign) (cond : Cond) → IsFit (known_of db) (t.Update name sets cond)
-    → (columns : List Column) × IsTableOf columns db name × All (IsFitAssign columns) sets
-update_fits db name sets cond (columns, known, fit, apart, cond_fits) = (columns, table_known (known_of db name) columns known, fit)
+pub update_fits : (known : Known) (name : List ℕ) (sets : List Assign) (cond : Cond) → IsFit known (t.Update name sets cond)
+    → (columns : List Column) × (known name ≡ Some (what.Table, columns)) × All (IsFitAssign columns) sets
+update_fits known name sets cond (columns, is, fit, apart, cond_fits) = (columns, table_known (known name) columns is, fit)
 
-module _ (db : List (Held Relation)) (fit : All (λ h. HaveKinds h.columns h.rows) db) where
-  -- a name that has columns has rows that fit them
-  pub named_there : (table : List ℕ × List Column) → schemas_of (known_of db) table.0 ≡ Some table.1 → IsThere (rows_of db) table
-  named_there table known = at (found db table.0) refl known
-    where
-      at : (o : Option (Held Relation)) → found db table.0 ≡ o → columns_of (option_map described o) ≡ Some table.1 → IsThere (rows_of db) table
-      at None is known = cc
-      at (Some h) is known = (
-        h.rows,
-        ap (option_map (λ h. h.rows)) is,
-        fit_of db table.0 table.1 h.rows fit (ap (λ o. option_map (λ k. k.1) (option_map described o)) is ∙ known) (ap (option_map (λ h. h.rows)) is),
-      )
-
-  -- and on each day they do so
-  named_fit : (d : ℤ) (table : From1) → IsAsNamed (schemas_of (known_of db)) table → FitRows table.schema (named_rows (world_at d db) table.name)
-  named_fit d table known =
-      let there = named_there (table.name, table.schema) known in
-      subst (λ rows. FitRows table.schema (rows table.name)) (rows_at-world d db) (subst (λ o. FitRows table.schema (rows_or_none o d)) (sym there.1) (fit_on_day table.schema there.0 there.2 d))
+module _ (known : Known) (named : Relations) (held : AreHeld known named)
+    (on_a_day : (columns : List Column) (rel : Relation) → HaveKinds columns rel → (d : ℤ) → All (IsFitFixed columns) (relation_at row_order row_at rel d)) (d : ℤ) where
+  -- the rows of a day of a table fit its columns
+  named_fit : (table : From1) → IsAsNamed (schemas_of known) table → FitRows table.schema (rows_at named d table.name)
+  named_fit table is =
+      let there = held table.name table.schema is in
+      subst (λ o. FitRows table.schema (rows_or_none o d)) (sym there.1) (on_a_day table.schema there.0 there.2 d)
 
   -- and so do those of the tables of a query that fits
-  pub tables_fit : (d : ℤ) (query : Query) → IsFitQuery (schemas_of (known_of db)) query → AllHaveFitRows (named_rows (world_at d db)) query
-  tables_fit d query fits = (
+  pub tables_fit : (query : Query) → IsFitQuery (schemas_of known) query → AllHaveFitRows (rows_at named d) query
+  tables_fit query fits = (
     of_core query.first fits.first,
-    All-weaker (IsFitRest (schemas_of (known_of db)) query.first) (λ rest. HaveFitRows (named_rows (world_at d db)) rest.core) (λ rest r. of_core rest.core r.core) query.rest fits.rest,
+    All-weaker (IsFitRest (schemas_of known) query.first) (λ rest. HaveFitRows (rows_at named d) rest.core) (λ rest r. of_core rest.core r.core) query.rest fits.rest,
   )
     where
-      of_core : (core : Core) → IsFitCore (schemas_of (known_of db)) core → HaveFitRows (named_rows (world_at d db)) core
-      of_core core c = All-weaker (IsAsNamed (schemas_of (known_of db))) (λ table. FitRows table.schema (named_rows (world_at d db) table.name)) (named_fit d) core.tables c.tables
+      of_core : (core : Core) → IsFitCore (schemas_of known) core → HaveFitRows (rows_at named d) core
+      of_core core c = All-weaker (IsAsNamed (schemas_of known)) (λ table. FitRows table.schema (rows_at named d table.name)) named_fit core.tables c.tables
 
 -- a row of one day has values of these kinds
 abbrev HasKinds : List Kind → Fixed → Type 0
