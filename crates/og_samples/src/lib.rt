@@ -1,8 +1,7 @@
 //! Short tests of calls that no script can make: the texts and numbers of days, sets of days, the days on
 //! which something holds of points and periods, values and their cells, relations and the gluing of two rows,
-//! spans that overlap, queries by the plain evaluator and by several workers, the printing of scripts, and
-//! devices over std's readers and writers. And the traits of rows and of joins at small types, with the
-//! proofs that these keep their laws.
+//! spans that overlap, and devices over std's readers and writers. And the traits of rows and of joins at
+//! small types, with the proofs that these keep their laws.
 //!
 //! What a script with its output can say is a case (docs/CASES.md), and what a contract says is proved.
 #![tactic(auto)]
@@ -18,10 +17,6 @@ mod days;
 #[cfg(test)]
 mod devices;
 pub mod joins;
-#[cfg(test)]
-mod prints;
-#[cfg(test)]
-mod queries;
 #[cfg(test)]
 mod relations;
 pub mod rows;

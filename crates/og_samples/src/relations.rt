@@ -19,8 +19,8 @@ fn row(alloc: Global, cells: &[(Kind, &str)]) -> Result<Row, Fail> {
     Ok(Row::of(values))
 }
 
-/// The cells of the rows with commas between them, each row on a line.
-pub fn lines(alloc: Global, rows: &[FixedRow]) -> Result<Vec<u8>, NoMemory> {
+// The cells of the rows with commas between them, each row on a line.
+fn lines(alloc: Global, rows: &[FixedRow]) -> Result<Vec<u8>, NoMemory> {
     let mut out = Vec::new(alloc);
     for row in rows {
         for i in 0..row.len() {

@@ -13,6 +13,8 @@ pub struct Case {
     pub script: Vec<u8>,
     pub output: Vec<u8>,
     pub status: u8,
+    /// The script as it is printed; no bytes where the case does not say.
+    pub printed: Vec<u8>,
 }
 
 impl Case {
@@ -27,6 +29,7 @@ impl Case {
             script: Vec::new(alloc),
             output: Vec::new(alloc),
             status: 0,
+            printed: Vec::new(alloc),
         })
     }
 }

@@ -92,6 +92,7 @@ impl Book {
                 let piece = Piece::of(head, text)?;
                 match piece.sign {
                     Sign::Output => add_piece(alloc, &piece, &mut case.output)?,
+                    Sign::Printed => add_piece(alloc, &piece, &mut case.printed)?,
                     _ => add_piece(alloc, &piece, &mut case.script)?,
                 }
             }
@@ -106,7 +107,7 @@ impl Book {
         };
         let piece = Piece::of(head, text)?;
         match piece.sign {
-            Sign::Output => return Err(Refusal::NotALine),
+            Sign::Output | Sign::Printed => return Err(Refusal::NotALine),
             _ => add_piece(alloc, &piece, &mut setup.script)?,
         }
         self.setups.push(setup)?;
@@ -120,9 +121,10 @@ enum Sign {
     Line,
     Part,
     Output,
+    Printed,
 }
 
-// A piece of a script or of an output. It stands once where no number of turns is said.
+// A piece of a script, of an output or of a printed script. It stands once where no number of turns is said.
 #[derive(Clone, Copy)]
 struct Piece<'a> {
     sign: Sign,
@@ -156,6 +158,7 @@ fn sign_of(text: &str) -> Result<Sign, Refusal> {
         "|" => Ok(Sign::Line),
         "+" => Ok(Sign::Part),
         ">" => Ok(Sign::Output),
+        "=" => Ok(Sign::Printed),
         _ => Err(Refusal::NotALine),
     }
 }

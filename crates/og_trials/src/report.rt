@@ -43,6 +43,41 @@ impl Report {
         outcome: &Outcome,
         is_well: bool,
     ) -> Result<(), Refusal> {
+        self.count(alloc, case, way, is_well)?;
+        if is_well {
+            return Ok(());
+        }
+        let wanted = format!(in alloc; "wanted status {} and", case.status)?;
+        self.add_side(alloc, wanted.as_str(), case.output.as_slice())?;
+        let found = format!(in alloc; "found status {} and", outcome.status)?;
+        self.add_side(alloc, found.as_str(), outcome.written.as_slice())
+    }
+
+    /// Counts a run that gave the second bytes, and adds a text where these are not the first.
+    pub fn compare(
+        &mut self,
+        alloc: Global,
+        case: &Case,
+        way: &str,
+        wanted: &[u8],
+        found: &[u8],
+    ) -> Result<(), Refusal> {
+        self.count(alloc, case, way, found == wanted)?;
+        if found == wanted {
+            return Ok(());
+        }
+        self.add_side(alloc, "wanted", wanted)?;
+        self.add_side(alloc, "found", found)
+    }
+
+    // Counts a run, and adds the head of its text where it did not go well.
+    fn count(
+        &mut self,
+        alloc: Global,
+        case: &Case,
+        way: &str,
+        is_well: bool,
+    ) -> Result<(), Refusal> {
         self.runs = self.runs.saturating_add(1);
         if is_well {
             return Ok(());
@@ -54,19 +89,12 @@ impl Report {
             case.name.as_str()
         )?;
         self.text.extend_from_slice(head.as_bytes())?;
-        self.add_side(alloc, "wanted", case.status, case.output.as_slice())?;
-        self.add_side(alloc, "found", outcome.status, outcome.written.as_slice())
+        Ok(())
     }
 
     // Adds what was wanted or found.
-    fn add_side(
-        &mut self,
-        alloc: Global,
-        what: &str,
-        status: u8,
-        bytes: &[u8],
-    ) -> Result<(), Refusal> {
-        let head = format!(in alloc; "  {what} status {status} and {} bytes:\n", bytes.len())?;
+    fn add_side(&mut self, alloc: Global, what: &str, bytes: &[u8]) -> Result<(), Refusal> {
+        let head = format!(in alloc; "  {what} {} bytes:\n", bytes.len())?;
         self.text.extend_from_slice(head.as_bytes())?;
         let shown = &bytes[..bytes.len().min(SHOWN)];
         self.text.extend_from_slice(shown)?;

@@ -1,11 +1,15 @@
 //! The ways in which a case is run.
+ghost use Rattle.std.specs.Prelude.{IfOk, IfSome};
+ghost use Rattle.og_print.specs.Printed.{IsPrintable};
+
 use crate::case::Case;
+use crate::queries::ask_queries;
 use crate::refusal::Refusal;
 use crate::report::Report;
 use crate::trial::{Devices, Outcome, ran};
 use og_base::NoMemory;
 use og_lex::{LexRefusal, lex};
-use og_parse::{ParseRefusal, parse};
+use og_parse::{ParseRefusal, Script, parse};
 use og_print::print_script;
 use std::alloc::Global;
 use std::thread::Threads;
@@ -38,11 +42,10 @@ pub fn try_case<H: Threads + Sync + AllocGlobal>(
     try_script(rt, case, script, Devices::BYTEWISE, "a byte a call", report)?;
     try_sinks(rt, case, report)?;
     try_sources(rt, case, report)?;
-    if let Some(script) = reprinted(rt.alloc(), script)? {
-        let script = script.as_slice();
-        try_script(rt, case, script, Devices::WHOLE, "printed again", report)?;
+    match tree_of(rt.alloc(), script)? {
+        Some(tree) => try_tree(rt, case, &tree, report),
+        None => try_text(rt.alloc(), case, b"", report),
     }
-    Ok(())
 }
 
 // Runs the script on devices that do not fail, and gives whether the case wants what came of it.
@@ -134,17 +137,43 @@ fn is_unread(outcome: &Outcome, call: u64) -> bool {
         && outcome.sink_calls == 0
 }
 
-// The script as its statements are printed, if it has any.
-fn reprinted(alloc: Global, script: &[u8]) -> Result<Option<Vec<u8>>, NoMemory> {
+// The tree of the script, if it has one.
+fn tree_of(alloc: Global, script: &[u8]) -> Result<Option<Script>, NoMemory>
+    ensures { IfOk result (λ tree. IfSome tree (λ tree. IsPrintable tree.stmts)) }
+{
     let tokens = match lex(alloc, script) {
         Ok(tokens) => tokens,
         Err(LexRefusal::NoMemory) => return Err(NoMemory),
         Err(_) => return Ok(None),
     };
-    let tree = match parse(alloc, script, tokens.as_slice()) {
-        Ok(tree) => tree,
-        Err(ParseRefusal::NoMemory) => return Err(NoMemory),
-        Err(_) => return Ok(None),
-    };
-    Ok(Some(print_script(alloc, &tree)?))
+    match parse(alloc, script, tokens.as_slice()) {
+        Ok(tree) => Ok(Some(tree)),
+        Err(ParseRefusal::NoMemory) => Err(NoMemory),
+        Err(_) => Ok(None),
+    }
+}
+
+// Prints the tree of the case, runs what is printed, and asks the queries that it prints anew.
+fn try_tree<H: Threads + Sync + AllocGlobal>(
+    rt: &H,
+    case: &Case,
+    tree: &Script,
+    report: &mut Report,
+) -> Result<(), Refusal>
+    requires { IsPrintable tree.now.stmts }
+{
+    let text = print_script(rt.alloc(), tree)?;
+    let text = text.as_slice();
+    try_text(rt.alloc(), case, text, report)?;
+    try_script(rt, case, text, Devices::WHOLE, "printed again", report)?;
+    ask_queries(rt, case, tree.stmts.as_slice(), report)
+}
+
+// Compares what was printed for the script with what the case says of it.
+fn try_text(alloc: Global, case: &Case, found: &[u8], report: &mut Report) -> Result<(), Refusal> {
+    let wanted = case.printed.as_slice();
+    if wanted.is_empty() {
+        return Ok(());
+    }
+    report.compare(alloc, case, "as it is printed", wanted, found)
 }
