@@ -108,7 +108,10 @@ fn query_as_of<'a>(
     let (query, rest) = query(alloc, script, strict, false, lexemes)?;
     match as_of(alloc, script, strict, rest) {
         Ok((day, rest)) => Ok((Stmt::PrintQuery { query, day }, rest)),
-        Err(refusal) => Err(refusal),
+        Err(refusal) => {
+            drop(query);
+            Err(refusal)
+        }
     }
 }
 

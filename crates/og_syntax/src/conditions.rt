@@ -1,16 +1,17 @@
 //! Conditions.
 ghost use Rattle.std.specs.Prelude.{◌≡◌, ◌∷◌, []};
 ghost use Rattle.og_syntax.specs.Lexemes.{is};
-ghost use Rattle.og_syntax.specs.Reading.{Gives, past, more, with_front, single, pair};
+ghost use Rattle.og_syntax.specs.Reading.{Gives, past, more, with_front, single, pair, bind, pure, tok, ◌>>◌};
 ghost use Rattle.og_syntax.specs.Clauses as clauses;
 ghost use Rattle.og_syntax.specs.Reader as spec;
 ghost use Rattle.og_syntax.specs.declared.lexeme.Sort.{Sort};
+ghost use Rattle.og_syntax.specs.declared.tree.CondText.TheVariants as tree;
 
 use crate::expressions::expression;
 use crate::lexeme::{Lexeme, Sort};
 use crate::meaning::{comparison_of, predicate_of};
 use crate::refusal::Refusal;
-use crate::step::{after, expect, same_sort, sort_at};
+use crate::step::{after, expect, followed, list_of, same_sort, sort_at};
 use crate::tree::{CondText, ExprText};
 use sqlite_items::{Boxed, Items};
 use std::alloc::Global;
@@ -41,8 +42,7 @@ fn condition_in<'a>(
     ensures { Gives result (spec.cond_of (spec.neg_in script.now strict depth) lexemes.now) }
 {
     let (first, rest) = conjunction_in(alloc, script, strict, lexemes, depth)?;
-    let mut parts = Items::new(alloc);
-    parts.push(first)?;
+    let parts = list_of(alloc, first)?;
     let (parts, rest) = more_conjunctions_in(alloc, script, strict, rest, depth, parts)?;
     Ok((any_of(parts), rest))
 }
@@ -82,8 +82,7 @@ fn conjunction_in<'a>(
     ensures { Gives result (spec.conj_of (spec.neg_in script.now strict depth) lexemes.now) }
 {
     let (first, rest) = negation_in(alloc, script, strict, lexemes, depth)?;
-    let mut parts = Items::new(alloc);
-    parts.push(first)?;
+    let parts = list_of(alloc, first)?;
     let (parts, rest) = more_negations_in(alloc, script, strict, rest, depth, parts)?;
     Ok((all_of(parts), rest))
 }
@@ -147,22 +146,31 @@ fn atom_in<'a>(
 {
     let sort = sort_at(lexemes);
     if same_sort(sort, Sort::LeftParen) {
-        let rest = expect(lexemes, Sort::LeftParen)?;
-        let (inner, rest) = condition_in(alloc, script, strict, rest, depth)?;
-        let rest = expect(rest, Sort::RightParen)?;
-        return Ok((inner, rest));
+        return enclosed_in(alloc, script, strict, lexemes, depth);
     }
     if same_sort(sort, Sort::Empty) {
-        let rest = expect(lexemes, Sort::Empty)?;
-        let (period, rest) = one_expression(alloc, script, strict, rest)?;
-        return Ok((CondText::Empty(period), rest));
+        return emptiness(alloc, script, strict, lexemes);
     }
     if same_sort(sort, Sort::Contains) {
-        let rest = expect(lexemes, Sort::Contains)?;
-        let ((period, day), rest) = two_expressions(alloc, script, strict, rest)?;
-        return Ok((CondText::Contains(period, day), rest));
+        return containment(alloc, script, strict, lexemes);
     }
     relation(alloc, script, strict, lexemes)
+}
+
+// A condition in parentheses, whose negations are nested no deeper than the number.
+#[cycle(conditions)]
+fn enclosed_in<'a>(
+    alloc: Global,
+    script: &[u8],
+    strict: bool,
+    lexemes: &'a [Lexeme],
+    depth: usize,
+) -> Result<(CondText, &'a [Lexeme]), Refusal>
+    ensures { Gives result (single (spec.cond_of (spec.neg_in script.now strict depth)) lexemes.now) }
+{
+    let rest = expect(lexemes, Sort::LeftParen)?;
+    let read = condition_in(alloc, script, strict, rest, depth)?;
+    followed(read, Sort::RightParen)
 }
 
 // One by itself, or the list of several that are joined by AND.
@@ -187,40 +195,40 @@ pub fn any_of(parts: Items<CondText>) -> CondText
     parts.remove(0)
 }
 
-// An expression in parentheses.
-fn one_expression<'a>(
+// EMPTY and the expression in parentheses after it.
+fn emptiness<'a>(
     alloc: Global,
     script: &[u8],
     strict: bool,
     lexemes: &'a [Lexeme],
-) -> Result<(ExprText, &'a [Lexeme]), Refusal>
-    ensures { Gives result (single (spec.expr script.now strict) lexemes.now) }
+) -> Result<(CondText, &'a [Lexeme]), Refusal>
+    ensures { Gives result (past Sort.Empty (bind (single (spec.expr script.now strict)) (λ x. pure (tree.Empty x))) lexemes.now) }
 {
-    let rest = expect(lexemes, Sort::LeftParen)?;
-    let (only, rest) = expression(alloc, script, strict, rest)?;
-    let rest = expect(rest, Sort::RightParen)?;
-    Ok((only, rest))
+    let rest = expect(lexemes, Sort::Empty)?;
+    let rest = expect(rest, Sort::LeftParen)?;
+    let (period, rest) = expression(alloc, script, strict, rest)?;
+    followed((CondText::Empty(period), rest), Sort::RightParen)
 }
 
-// Two expressions in parentheses.
-fn two_expressions<'a>(
+// CONTAINS and the two expressions in parentheses after it.
+fn containment<'a>(
     alloc: Global,
     script: &[u8],
     strict: bool,
     lexemes: &'a [Lexeme],
-) -> Result<((ExprText, ExprText), &'a [Lexeme]), Refusal>
-    ensures { Gives result (pair (spec.expr script.now strict) lexemes.now) }
+) -> Result<(CondText, &'a [Lexeme]), Refusal>
+    ensures { Gives result (past Sort.Contains (bind (pair (spec.expr script.now strict)) (λ xs. pure (tree.Contains xs.0 xs.1))) lexemes.now) }
 {
-    let rest = expect(lexemes, Sort::LeftParen)?;
-    let (left, rest) = expression(alloc, script, strict, rest)?;
-    let rest = expect(rest, Sort::Comma)?;
-    let (right, rest) = expression(alloc, script, strict, rest)?;
-    let rest = expect(rest, Sort::RightParen)?;
-    Ok(((left, right), rest))
+    let rest = expect(lexemes, Sort::Contains)?;
+    let rest = expect(rest, Sort::LeftParen)?;
+    let read = expression(alloc, script, strict, rest)?;
+    let (period, rest) = followed(read, Sort::Comma)?;
+    let (day, rest) = expression(alloc, script, strict, rest)?;
+    followed((CondText::Contains(period, day), rest), Sort::RightParen)
 }
 
 // Two expressions with a comparison or a predicate between them.
-#[tactic(auto, unfolding(crate::specs::Reader::relation, crate::specs::Reader::compare, crate::specs::Reader::relate, crate::specs::Reading::worded))]
+#[tactic(auto, unfolding(crate::specs::Reader::relation))]
 fn relation<'a>(
     alloc: Global,
     script: &[u8],
@@ -230,14 +238,54 @@ fn relation<'a>(
     ensures { Gives result (spec.relation script.now strict lexemes.now) }
 {
     let (left, rest) = expression(alloc, script, strict, lexemes)?;
-    let sort = sort_at(rest);
-    if let Some(op) = comparison_of(sort) {
-        let (right, rest) = expression(alloc, script, strict, after(rest))?;
-        return Ok((CondText::Compare { op, left, right }, rest));
+    if comparison_of(sort_at(rest)).is_some() {
+        return compared(alloc, script, strict, left, rest);
     }
-    let Some(pred) = predicate_of(sort) else {
+    related(alloc, script, strict, left, rest)
+}
+
+// A comparison and the expression after it, behind the first expression.
+#[tactic(auto, unfolding(crate::specs::Reader::compare, crate::specs::Reading::worded))]
+fn compared<'a>(
+    alloc: Global,
+    script: &[u8],
+    strict: bool,
+    left: ExprText,
+    lexemes: &'a [Lexeme],
+) -> Result<(CondText, &'a [Lexeme]), Refusal>
+    ensures { Gives result (spec.compare script.now strict left lexemes.now) }
+{
+    let Some(op) = comparison_of(sort_at(lexemes)) else {
         return Err(Refusal::Syntax);
     };
-    let (right, rest) = expression(alloc, script, strict, after(rest))?;
-    Ok((CondText::Relate { pred, left, right }, rest))
+    match expression(alloc, script, strict, after(lexemes)) {
+        Ok((right, rest)) => Ok((CondText::Compare { op, left, right }, rest)),
+        Err(refusal) => {
+            drop(left);
+            Err(refusal)
+        }
+    }
+}
+
+// A predicate and the expression after it, behind the first expression.
+#[tactic(auto, unfolding(crate::specs::Reader::relate, crate::specs::Reading::worded))]
+fn related<'a>(
+    alloc: Global,
+    script: &[u8],
+    strict: bool,
+    left: ExprText,
+    lexemes: &'a [Lexeme],
+) -> Result<(CondText, &'a [Lexeme]), Refusal>
+    ensures { Gives result (spec.relate script.now strict left lexemes.now) }
+{
+    let Some(pred) = predicate_of(sort_at(lexemes)) else {
+        return Err(Refusal::Syntax);
+    };
+    match expression(alloc, script, strict, after(lexemes)) {
+        Ok((right, rest)) => Ok((CondText::Relate { pred, left, right }, rest)),
+        Err(refusal) => {
+            drop(left);
+            Err(refusal)
+        }
+    }
 }

@@ -10,11 +10,10 @@ use crate::literals::literal;
 use crate::meaning::{func_of_one, func_of_two};
 use crate::refusal::Refusal;
 use crate::spelling::name;
-use crate::step::{after, expect, same_sort, sees, sort_at};
+use crate::step::{after, expect, list_of, same_sort, sees, sort_at};
 use crate::tree::ExprText;
 use og_value::{Func, Name};
-use sqlite_items::Items;
-use std::alloc::{AllocError, Global};
+use std::alloc::Global;
 
 /// The expression that the lexemes begin with, and the lexemes after it.
 #[tactic(auto, unfolding(crate::specs::Reader::expr))]
@@ -74,8 +73,13 @@ fn call_of_two<'a>(
 ) -> Result<(ExprText, &'a [Lexeme]), Refusal>
     ensures { Gives result (bind (pair (spec.expr_in script.now strict depth)) (λ xs. pure (tree.Call func (xs.0 ∷ xs.1 ∷ []))) lexemes.now) }
 {
-    let ((left, right), rest) = two_in(alloc, script, strict, lexemes, depth)?;
-    let args = list_of_two(alloc, left, right)?;
+    let rest = expect(lexemes, Sort::LeftParen)?;
+    let (left, rest) = expression_in(alloc, script, strict, rest, depth)?;
+    let mut args = list_of(alloc, left)?;
+    let rest = expect(rest, Sort::Comma)?;
+    let (right, rest) = expression_in(alloc, script, strict, rest, depth)?;
+    args.push(right)?;
+    let rest = expect(rest, Sort::RightParen)?;
     Ok((ExprText::Call { func, args }, rest))
 }
 
@@ -91,68 +95,11 @@ fn call_of_one<'a>(
 ) -> Result<(ExprText, &'a [Lexeme]), Refusal>
     ensures { Gives result (bind (single (spec.expr_in script.now strict depth)) (λ x. pure (tree.Call func (x ∷ []))) lexemes.now) }
 {
-    let (only, rest) = one_in(alloc, script, strict, lexemes, depth)?;
-    let args = list_of_one(alloc, only)?;
-    Ok((ExprText::Call { func, args }, rest))
-}
-
-// Two expressions in parentheses.
-#[cycle(expressions)]
-fn two_in<'a>(
-    alloc: Global,
-    script: &[u8],
-    strict: bool,
-    lexemes: &'a [Lexeme],
-    depth: usize,
-) -> Result<((ExprText, ExprText), &'a [Lexeme]), Refusal>
-    ensures { Gives result (pair (spec.expr_in script.now strict depth) lexemes.now) }
-{
-    let rest = expect(lexemes, Sort::LeftParen)?;
-    let (left, rest) = expression_in(alloc, script, strict, rest, depth)?;
-    let rest = expect(rest, Sort::Comma)?;
-    let (right, rest) = expression_in(alloc, script, strict, rest, depth)?;
-    let rest = expect(rest, Sort::RightParen)?;
-    Ok(((left, right), rest))
-}
-
-// An expression in parentheses.
-#[cycle(expressions)]
-fn one_in<'a>(
-    alloc: Global,
-    script: &[u8],
-    strict: bool,
-    lexemes: &'a [Lexeme],
-    depth: usize,
-) -> Result<(ExprText, &'a [Lexeme]), Refusal>
-    ensures { Gives result (single (spec.expr_in script.now strict depth) lexemes.now) }
-{
     let rest = expect(lexemes, Sort::LeftParen)?;
     let (only, rest) = expression_in(alloc, script, strict, rest, depth)?;
+    let args = list_of(alloc, only)?;
     let rest = expect(rest, Sort::RightParen)?;
-    Ok((only, rest))
-}
-
-// The list of both.
-fn list_of_two(
-    alloc: Global,
-    left: ExprText,
-    right: ExprText,
-) -> Result<Items<ExprText>, AllocError>
-    ensures { IfOk result (λ all. all ≡ left ∷ right ∷ []) }
-{
-    let mut all = Items::new(alloc);
-    all.push(left)?;
-    all.push(right)?;
-    Ok(all)
-}
-
-// The list of the one.
-fn list_of_one(alloc: Global, only: ExprText) -> Result<Items<ExprText>, AllocError>
-    ensures { IfOk result (λ all. all ≡ only ∷ []) }
-{
-    let mut all = Items::new(alloc);
-    all.push(only)?;
-    Ok(all)
+    Ok((ExprText::Call { func, args }, rest))
 }
 
 // A column, by its name or by its table's name and its own.

@@ -2,15 +2,16 @@
 ghost use Rattle.std.specs.Prelude.{◌≡◌, ◌∷◌, [], None, Some};
 ghost use Rattle.og_syntax.specs.declared.lexeme.Sort.{Sort};
 ghost use Rattle.og_syntax.specs.Lexemes.{is};
-ghost use Rattle.og_syntax.specs.Reading.{Gives, past, more, with_front};
+ghost use Rattle.og_syntax.specs.Reading.{Gives, past, more, optional, with_front};
 ghost use Rattle.og_syntax.specs.Reader as spec;
 
 use crate::expressions::expression;
 use crate::lexeme::{Lexeme, Sort};
 use crate::refusal::Refusal;
 use crate::spelling::name;
-use crate::step::{after, expect, same_sort, sort_at};
+use crate::step::{after, expect, list_of, same_sort, sort_at};
 use crate::tree::{ItemText, ItemsText};
+use og_value::Name;
 use sqlite_items::Items;
 use std::alloc::Global;
 
@@ -29,8 +30,7 @@ pub fn items<'a>(
         return Ok((ItemsText::Star, rest));
     }
     let (first, rest) = item(alloc, script, strict, lexemes)?;
-    let mut parts = Items::new(alloc);
-    parts.push(first)?;
+    let parts = list_of(alloc, first)?;
     let (parts, rest) = more_items(alloc, script, strict, rest, parts)?;
     Ok((ItemsText::List(parts), rest))
 }
@@ -66,16 +66,22 @@ fn item<'a>(
     ensures { Gives result (spec.item script.now strict lexemes.now) }
 {
     let (expr, rest) = expression(alloc, script, strict, lexemes)?;
-    if same_sort(sort_at(rest), Sort::As) {
-        let rest = expect(rest, Sort::As)?;
+    let (name, rest) = given_name(alloc, script, rest)?;
+    Ok((ItemText { expr, name }, rest))
+}
+
+// The name after AS, or none.
+fn given_name<'a>(
+    alloc: Global,
+    script: &[u8],
+    lexemes: &'a [Lexeme],
+) -> Result<(Option<Name>, &'a [Lexeme]), Refusal>
+    ensures { Gives result (optional (is Sort.As) (past Sort.As (spec.name script.now)) lexemes.now) }
+{
+    if same_sort(sort_at(lexemes), Sort::As) {
+        let rest = expect(lexemes, Sort::As)?;
         let (name, rest) = name(alloc, script, rest)?;
-        return Ok((
-            ItemText {
-                expr,
-                name: Some(name),
-            },
-            rest,
-        ));
+        return Ok((Some(name), rest));
     }
-    Ok((ItemText { expr, name: None }, rest))
+    Ok((None, lexemes))
 }

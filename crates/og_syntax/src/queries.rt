@@ -1,18 +1,20 @@
 //! Queries.
 ghost use Rattle.std.specs.Prelude.{◌≡◌, ◌∷◌, [], None, Some};
-ghost use Rattle.og_syntax.specs.Lexemes.{sort_at};
+ghost use Rattle.og_syntax.specs.declared.lexeme.Sort.{Sort};
+ghost use Rattle.og_syntax.specs.Lexemes.{is, sort_at};
 ghost use Rattle.og_syntax.specs.Meanings.{set_op_of};
-ghost use Rattle.og_syntax.specs.Reading.{Gives, has, more, with_front};
+ghost use Rattle.og_syntax.specs.Reading.{Gives, has, more, optional, past, with_front};
+ghost use Rattle.og_syntax.specs.Clauses as clauses;
 ghost use Rattle.og_syntax.specs.Reader as spec;
 
 use crate::items::items;
 use crate::lexeme::{Lexeme, Sort};
 use crate::meaning::set_op_of;
 use crate::refusal::Refusal;
-use crate::step::{after, expect, same_sort, sort_at};
+use crate::step::{after, expect, followed, same_sort, sort_at};
 use crate::tables::tables;
-use crate::tree::{CoreText, QueryText, RestText};
-use crate::wheres::where_condition;
+use crate::tree::{CoreText, FromText, ItemsText, QueryText, RestText};
+use crate::wheres::{Where, where_condition};
 use og_value::SetOp;
 use sqlite_items::Items;
 use std::alloc::Global;
@@ -30,14 +32,19 @@ pub fn query<'a>(
     ensures { Gives result (spec.query script.now strict live lexemes.now) }
 {
     let (first, rest) = query_core(alloc, script, strict, live, lexemes)?;
-    let (others, rest) = more_cores(alloc, script, strict, live, rest, Items::new(alloc))?;
-    Ok((
-        QueryText {
-            first,
-            rest: others,
-        },
-        rest,
-    ))
+    match more_cores(alloc, script, strict, live, rest, Items::new(alloc)) {
+        Ok((others, rest)) => Ok((
+            QueryText {
+                first,
+                rest: others,
+            },
+            rest,
+        )),
+        Err(refusal) => {
+            drop(first);
+            Err(refusal)
+        }
+    }
 }
 
 // Further cores, behind the parts that were read before.
@@ -91,29 +98,48 @@ fn query_core<'a>(
     ensures { Gives result (spec.core script.now strict live lexemes.now) }
 {
     let rest = expect(lexemes, Sort::Select)?;
-    let (items, rest) = items(alloc, script, strict, rest)?;
-    let rest = expect(rest, Sort::From)?;
+    let read = items(alloc, script, strict, rest)?;
+    let (items, rest) = followed(read, Sort::From)?;
     let (tables, rest) = tables(alloc, script, strict, rest)?;
-    if same_sort(sort_at(rest), Sort::Where) {
-        let rest = expect(rest, Sort::Where)?;
-        let ((cond, semis), rest) = where_condition(alloc, script, strict, live, rest)?;
-        return Ok((
-            CoreText {
-                items,
-                tables,
-                cond,
-                semis,
-            },
-            rest,
-        ));
+    let (found, rest) = where_part(alloc, script, strict, live, rest)?;
+    Ok((core_of(alloc, items, tables, found), rest))
+}
+
+// What stands after WHERE, or nothing.
+fn where_part<'a>(
+    alloc: Global,
+    script: &[u8],
+    strict: bool,
+    live: bool,
+    lexemes: &'a [Lexeme],
+) -> Result<(Option<Where>, &'a [Lexeme]), Refusal>
+    ensures { Gives result (optional (is Sort.Where) (past Sort.Where (spec.wcond script.now strict live)) lexemes.now) }
+{
+    if same_sort(sort_at(lexemes), Sort::Where) {
+        let rest = expect(lexemes, Sort::Where)?;
+        let (found, rest) = where_condition(alloc, script, strict, live, rest)?;
+        return Ok((Some(found), rest));
     }
-    Ok((
-        CoreText {
-            items,
-            tables,
-            cond: None,
-            semis: Items::new(alloc),
-        },
-        rest,
-    ))
+    Ok((None, lexemes))
+}
+
+// A SELECT, whose WHERE may be missing.
+fn core_of(
+    alloc: Global,
+    items: ItemsText,
+    tables: Items<FromText>,
+    found: Option<Where>,
+) -> CoreText
+    ensures { result ≡ clauses.core_of items tables found }
+{
+    let (cond, semis) = match found {
+        Some(found) => found,
+        None => (None, Items::new(alloc)),
+    };
+    CoreText {
+        items,
+        tables,
+        cond,
+        semis,
+    }
 }

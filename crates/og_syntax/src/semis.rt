@@ -2,21 +2,18 @@
 ghost use Rattle.std.specs.Prelude.{◌≡◌, ◌&&◌, ◌||◌, ◌∷◌, [], drop, None, Some, true, false};
 ghost use Rattle.og_syntax.specs.declared.lexeme.Sort.{Sort};
 ghost use Rattle.og_syntax.specs.Lexemes.{is, sees};
-ghost use Rattle.og_syntax.specs.Reading.{Gives, past, more, single, with_front};
+ghost use Rattle.og_syntax.specs.Clauses.{semi_of};
+ghost use Rattle.og_syntax.specs.Reading.{Gives, bind, past, pure, more, optional, single, with_front};
 ghost use Rattle.og_syntax.specs.Reader as spec;
 
 use crate::conditions::condition;
 use crate::lexeme::{Lexeme, Sort};
 use crate::refusal::Refusal;
-use crate::step::{after, expect, same_sort, sees, sort_at};
+use crate::step::{after, expect, followed, list_of, same_sort, sees, sort_at};
 use crate::tables::table_name;
 use crate::tree::{CondText, SemiText};
-use og_value::Name;
 use sqlite_items::Items;
 use std::alloc::Global;
-
-// What a sub-select says: its table, and its condition.
-type Sub = ((Name, Option<Name>), Option<CondText>);
 
 // Several of them, with AND between them.
 #[tactic(auto, unfolding(crate::specs::Reader::semis))]
@@ -29,8 +26,7 @@ pub fn semis<'a>(
     ensures { Gives result (spec.semis script.now strict lexemes.now) }
 {
     let (first, rest) = semi(alloc, script, strict, lexemes)?;
-    let mut parts = Items::new(alloc);
-    parts.push(first)?;
+    let parts = list_of(alloc, first)?;
     more_semis(alloc, script, strict, rest, parts)
 }
 
@@ -74,23 +70,47 @@ fn semi<'a>(
 {
     if same_sort(sort_at(lexemes), Sort::Exists) {
         let rest = expect(lexemes, Sort::Exists)?;
-        let (((name, alias), cond), rest) = sub_in_parens(alloc, script, strict, rest)?;
-        return Ok((
-            SemiText {
-                positive: true,
-                name,
-                alias,
-                cond,
-            },
-            rest,
-        ));
+        return sub_in_parens(alloc, script, strict, true, rest);
     }
     let rest = expect(lexemes, Sort::Not)?;
     let rest = expect(rest, Sort::Exists)?;
-    let (((name, alias), cond), rest) = sub_in_parens(alloc, script, strict, rest)?;
+    sub_in_parens(alloc, script, strict, false, rest)
+}
+
+// A sub-select in parentheses, after EXISTS or after NOT EXISTS.
+fn sub_in_parens<'a>(
+    alloc: Global,
+    script: &[u8],
+    strict: bool,
+    positive: bool,
+    lexemes: &'a [Lexeme],
+) -> Result<(SemiText, &'a [Lexeme]), Refusal>
+    ensures { Gives result (bind (single (spec.sub script.now strict)) (λ x. pure (semi_of positive x)) lexemes.now) }
+{
+    let rest = expect(lexemes, Sort::LeftParen)?;
+    let read = sub(alloc, script, strict, positive, rest)?;
+    followed(read, Sort::RightParen)
+}
+
+// A sub-select, after EXISTS or after NOT EXISTS.
+#[tactic(auto, unfolding(crate::specs::Reader::sub))]
+fn sub<'a>(
+    alloc: Global,
+    script: &[u8],
+    strict: bool,
+    positive: bool,
+    lexemes: &'a [Lexeme],
+) -> Result<(SemiText, &'a [Lexeme]), Refusal>
+    ensures { Gives result (bind (spec.sub script.now strict) (λ x. pure (semi_of positive x)) lexemes.now) }
+{
+    let rest = expect(lexemes, Sort::Select)?;
+    let rest = expect(rest, Sort::Star)?;
+    let rest = expect(rest, Sort::From)?;
+    let ((name, alias), rest) = table_name(alloc, script, rest)?;
+    let (cond, rest) = sub_condition(alloc, script, strict, rest)?;
     Ok((
         SemiText {
-            positive: false,
+            positive,
             name,
             alias,
             cond,
@@ -99,39 +119,19 @@ fn semi<'a>(
     ))
 }
 
-// A sub-select in parentheses.
-fn sub_in_parens<'a>(
+// The condition after WHERE, or none.
+fn sub_condition<'a>(
     alloc: Global,
     script: &[u8],
     strict: bool,
     lexemes: &'a [Lexeme],
-) -> Result<(Sub, &'a [Lexeme]), Refusal>
-    ensures { Gives result (single (spec.sub script.now strict) lexemes.now) }
+) -> Result<(Option<CondText>, &'a [Lexeme]), Refusal>
+    ensures { Gives result (optional (is Sort.Where) (past Sort.Where (spec.cond script.now strict)) lexemes.now) }
 {
-    let rest = expect(lexemes, Sort::LeftParen)?;
-    let (sub, rest) = sub(alloc, script, strict, rest)?;
-    let rest = expect(rest, Sort::RightParen)?;
-    Ok((sub, rest))
-}
-
-// A sub-select.
-#[tactic(auto, unfolding(crate::specs::Reader::sub))]
-fn sub<'a>(
-    alloc: Global,
-    script: &[u8],
-    strict: bool,
-    lexemes: &'a [Lexeme],
-) -> Result<(Sub, &'a [Lexeme]), Refusal>
-    ensures { Gives result (spec.sub script.now strict lexemes.now) }
-{
-    let rest = expect(lexemes, Sort::Select)?;
-    let rest = expect(rest, Sort::Star)?;
-    let rest = expect(rest, Sort::From)?;
-    let (table, rest) = table_name(alloc, script, rest)?;
-    if same_sort(sort_at(rest), Sort::Where) {
-        let rest = expect(rest, Sort::Where)?;
+    if same_sort(sort_at(lexemes), Sort::Where) {
+        let rest = expect(lexemes, Sort::Where)?;
         let (cond, rest) = condition(alloc, script, strict, rest)?;
-        return Ok(((table, Some(cond)), rest));
+        return Ok((Some(cond), rest));
     }
-    Ok(((table, None), rest))
+    Ok((None, lexemes))
 }

@@ -1,10 +1,12 @@
 //! The steps of reading lexemes.
-ghost use Rattle.std.specs.Prelude.{◌≡◌, drop};
+ghost use Rattle.std.specs.Prelude.{◌≡◌, ◌∷◌, [], IfOk, drop};
 ghost use Rattle.og_syntax.specs.Lexemes.{same_sort, sort_at, sees};
-ghost use Rattle.og_syntax.specs.Reading.{Gives, Passes, one, tok};
+ghost use Rattle.og_syntax.specs.Reading.{Gives, Passes, one, past, pure, tok};
 
 use crate::lexeme::{Lexeme, Sort};
 use crate::refusal::Refusal;
+use sqlite_items::Items;
+use std::alloc::{AllocError, Global};
 
 /// Whether both are the same.
 #[tactic(auto, unfolding(crate::specs::Lexemes::same_sort))]
@@ -52,6 +54,28 @@ pub fn expect(lexemes: &[Lexeme], sort: Sort) -> Result<&[Lexeme], Refusal>
     } else {
         Err(Refusal::Syntax)
     }
+}
+
+// What was read, and the lexemes after one of that sort behind it. `Syntax` exactly where no such
+// lexeme comes there.
+pub fn followed<'a, T: Drop>(
+    read: (T, &'a [Lexeme]),
+    sort: Sort,
+) -> Result<(T, &'a [Lexeme]), Refusal>
+    ensures { Gives result (past sort (pure read.entry.0) read.entry.1.now) }
+{
+    let (value, lexemes) = read;
+    let rest = expect(lexemes, sort)?;
+    Ok((value, rest))
+}
+
+// The list of the first part that was read.
+pub fn list_of<T: Drop>(alloc: Global, first: T) -> Result<Items<T>, AllocError>
+    ensures { IfOk result (λ parts. parts ≡ first ∷ []) }
+{
+    let mut parts = Items::new(alloc);
+    parts.push(first)?;
+    Ok(parts)
 }
 
 /// The first lexeme and those after it. `Syntax` exactly where it is not of that sort.

@@ -1,7 +1,7 @@
 //! Names of tables with their aliases, and what stands after FROM.
 ghost use Rattle.std.specs.Prelude.{◌≡◌, ◌&&◌, ◌||◌, ◌∷◌, [], drop, None, Some};
 ghost use Rattle.og_syntax.specs.Lexemes.{sees, sort_at};
-ghost use Rattle.og_syntax.specs.Reading.{Gives, more, with_front};
+ghost use Rattle.og_syntax.specs.Reading.{Gives, bind, more, pure, with_front};
 ghost use Rattle.og_syntax.specs.Clauses as clauses;
 ghost use Rattle.og_syntax.specs.Reader as spec;
 
@@ -9,7 +9,7 @@ use crate::conditions::condition;
 use crate::lexeme::{Lexeme, Sort};
 use crate::refusal::Refusal;
 use crate::spelling::name;
-use crate::step::{after, expect, same_sort, sees, sort_at};
+use crate::step::{after, expect, followed, list_of, same_sort, sees, sort_at};
 use crate::tree::FromText;
 use og_value::Name;
 use sqlite_items::Items;
@@ -39,15 +39,25 @@ fn alias<'a>(
     ensures { Gives result (spec.alias script.now lexemes.now) }
 {
     if same_sort(sort_at(lexemes), Sort::Name) {
-        let (alias, rest) = name(alloc, script, lexemes)?;
-        return Ok((Some(alias), rest));
+        return some_name(alloc, script, lexemes);
     }
     if sees(lexemes, Sort::As) && sees(after(lexemes), Sort::Name) {
         let rest = expect(lexemes, Sort::As)?;
-        let (alias, rest) = name(alloc, script, rest)?;
-        return Ok((Some(alias), rest));
+        return some_name(alloc, script, rest);
     }
     Ok((None, lexemes))
+}
+
+// A name, which is there.
+fn some_name<'a>(
+    alloc: Global,
+    script: &[u8],
+    lexemes: &'a [Lexeme],
+) -> Result<(Option<Name>, &'a [Lexeme]), Refusal>
+    ensures { Gives result (bind (spec.name script.now) (λ x. pure (Some x)) lexemes.now) }
+{
+    let (name, rest) = name(alloc, script, lexemes)?;
+    Ok((Some(name), rest))
 }
 
 // What stands after FROM.
@@ -61,8 +71,7 @@ pub fn tables<'a>(
     ensures { Gives result (spec.tables script.now strict lexemes.now) }
 {
     let (first, rest) = first_table(alloc, script, lexemes)?;
-    let mut parts = Items::new(alloc);
-    parts.push(first)?;
+    let parts = list_of(alloc, first)?;
     more_tables(alloc, script, strict, rest, parts)
 }
 
@@ -107,7 +116,7 @@ fn first_table<'a>(
 }
 
 // A table after a comma, or after JOIN with its condition.
-#[tactic(auto, unfolding(crate::specs::Reader::further_table, crate::specs::Reader::joined_table))]
+#[tactic(auto, unfolding(crate::specs::Reader::further_table))]
 fn further_table<'a>(
     alloc: Global,
     script: &[u8],
@@ -120,9 +129,22 @@ fn further_table<'a>(
         let rest = expect(lexemes, Sort::Comma)?;
         return first_table(alloc, script, rest);
     }
+    joined_table(alloc, script, strict, lexemes)
+}
+
+// A table after JOIN, with its condition.
+#[tactic(auto, unfolding(crate::specs::Reader::joined_table))]
+fn joined_table<'a>(
+    alloc: Global,
+    script: &[u8],
+    strict: bool,
+    lexemes: &'a [Lexeme],
+) -> Result<(FromText, &'a [Lexeme]), Refusal>
+    ensures { Gives result (spec.joined_table script.now strict lexemes.now) }
+{
     let rest = expect(lexemes, Sort::Join)?;
-    let ((name, alias), rest) = table_name(alloc, script, rest)?;
-    let rest = expect(rest, Sort::On)?;
+    let read = table_name(alloc, script, rest)?;
+    let ((name, alias), rest) = followed(read, Sort::On)?;
     let (on, rest) = condition(alloc, script, strict, rest)?;
     Ok((
         FromText {

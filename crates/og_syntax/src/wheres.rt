@@ -10,13 +10,13 @@ use crate::conditions::{all_of, any_of, condition, more_conjunctions_in, negatio
 use crate::lexeme::{Lexeme, Sort};
 use crate::refusal::Refusal;
 use crate::semis::{begins_semi, semis};
-use crate::step::{after, expect, same_sort, sees, sort_at};
+use crate::step::{after, expect, list_of, same_sort, sees, sort_at};
 use crate::tree::{CondText, SemiText};
 use sqlite_items::Items;
 use std::alloc::Global;
 
 // A condition, and conditions of EXISTS and NOT EXISTS.
-type Where = (Option<CondText>, Items<SemiText>);
+pub type Where = (Option<CondText>, Items<SemiText>);
 
 // What stands after WHERE. In a live query no EXISTS stands there.
 #[tactic(auto, unfolding(crate::specs::Reader::wcond))]
@@ -52,8 +52,7 @@ fn where_in<'a>(
         return Ok(((None, semis), rest));
     }
     let (first, rest) = negation_in(alloc, script, strict, lexemes, depth)?;
-    let mut parts = Items::new(alloc);
-    parts.push(first)?;
+    let parts = list_of(alloc, first)?;
     let (parts, rest) = more_before_semis(alloc, script, strict, rest, depth, parts)?;
     where_end(alloc, script, strict, rest, depth, parts)
 }
@@ -118,8 +117,7 @@ fn where_end<'a>(
         let (semis, rest) = semis(alloc, script, strict, rest)?;
         return Ok(((Some(all_of(parts)), semis), rest));
     }
-    let mut either = Items::new(alloc);
-    either.push(all_of(parts))?;
+    let either = list_of(alloc, all_of(parts))?;
     let (either, rest) = more_conjunctions_in(alloc, script, strict, lexemes, depth, either)?;
     Ok(((Some(any_of(either)), Items::new(alloc)), rest))
 }

@@ -6,22 +6,25 @@ use Rattle.og_syntax.specs.Reader.{neg_in, conj_of}
 use Rattle.og_syntax.proofs.conditions.+conditions.Given as goal
 
 abbrev pub decreases-negation_in : goal.decreases-negation_in
-decreases-negation_in l = 6 * l.depth
+decreases-negation_in l = 7 * l.depth
 
 abbrev pub decreases-more_negations_in : goal.decreases-more_negations_in
-decreases-more_negations_in l = 6 * l.depth + 1
+decreases-more_negations_in l = 7 * l.depth + 1
 
 abbrev pub decreases-conjunction_in : goal.decreases-conjunction_in
-decreases-conjunction_in l = 6 * l.depth + 2
+decreases-conjunction_in l = 7 * l.depth + 2
 
 abbrev pub decreases-more_conjunctions_in : goal.decreases-more_conjunctions_in
-decreases-more_conjunctions_in l = 6 * l.depth + 3
+decreases-more_conjunctions_in l = 7 * l.depth + 3
 
 abbrev pub decreases-condition_in : goal.decreases-condition_in
-decreases-condition_in l = 6 * l.depth + 4
+decreases-condition_in l = 7 * l.depth + 4
+
+abbrev pub decreases-enclosed_in : goal.decreases-enclosed_in
+decreases-enclosed_in l = 7 * l.depth + 5
 
 abbrev pub decreases-atom_in : goal.decreases-atom_in
-decreases-atom_in l = 6 * l.depth + 5
+decreases-atom_in l = 7 * l.depth + 6
 
 abbrev pub invariant-more_negations_in-more : goal.invariant-more_negations_in-more
 invariant-more_negations_in-more l =
