@@ -6,8 +6,8 @@
 //! it has at most as many rows as the size of the plan says. Which rows a join tries is no part of
 //! the contract.
 //!
-//! No tests here: those of several workers stand in og_samples, and what scripts reach is tested by
-//! the cases.
+//! No tests here: scripts reach it, so the cases test it; their queries are answered by 1, 2 and 64
+//! workers too (docs/CASES.md).
 #![tactic(auto)]
 
 mod answer;

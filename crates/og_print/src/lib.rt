@@ -5,8 +5,8 @@
 //! other definitions, in specs/Words.antt and the files that are named for the trees, say which
 //! words it writes, and follow the code.
 //!
-//! No tests here: the exact bytes are tested in og_samples, and each case that has statements is
-//! run once more as `print_script` prints it.
+//! No tests here: each case that has statements is run once more as `print_script` prints it, and
+//! the cases of printed.cases have the exact bytes (docs/CASES.md).
 #![tactic(auto, using(crate::proofs::Texts::with_words_append))]
 
 mod conditions;

@@ -8,7 +8,8 @@
 //! `one_condition_after_the_other` and `tables_in_either_order`. `copy` of a tree equals its
 //! source.
 //!
-//! No tests here: those of `ordinary` stand in og_samples.
+//! No tests here: scripts reach the trees, so the cases test them; `ordinary` answers the queries of
+//! the cases beside their plans (docs/CASES.md).
 #![tactic(auto)]
 
 mod algebra;

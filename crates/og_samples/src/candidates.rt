@@ -3,7 +3,7 @@ ghost use Rattle.std.specs.Prelude.{◌≡◌, ◌+◌, ◌≤◌, ◌<◌, ◌<
 ghost use Rattle.og_base.specs.Calendar.{IsExtDay};
 ghost use Rattle.og_join.specs.Overlaps.{Rises};
 
-use og_base::{ExtDay, NoMemory, Outer, Steps};
+use og_base::{ExtDay, Outer, Steps};
 use og_join::candidates;
 use std::alloc::Global;
 use std::marker::Brand;
@@ -22,23 +22,22 @@ fn span(lo: i32, hi: i32) -> Outer
     Outer { lo, hi, row: 0 }
 }
 
-// The pairs of places of the spans that overlap, in rising order.
-fn pairs(alloc: Global, left: &[Outer], right: &[Outer]) -> Result<Vec<(usize, usize)>, NoMemory>
+// Whether these are the pairs of places of the spans that overlap, in rising order.
+fn are_pairs(alloc: Global, left: &[Outer], right: &[Outer], pairs: &[(usize, usize)]) -> bool
     requires left_rises { Rises (λ o. o.lo) left.now }
     requires right_rises { Rises (λ o. o.lo) right.now }
 {
-    let mut found = counted::<Brand>(alloc, left, right, Blank::new(1))?;
-    found.sort()?;
-    Ok(found)
+    are_counted::<Brand>(alloc, left, right, pairs, Blank::new(1))
 }
 
-// The pairs of places of the spans that overlap, with a new counter.
-fn counted<L: Ledger>(
+// Whether these are the pairs of places of the spans that overlap, with a new counter.
+fn are_counted<L: Ledger>(
     alloc: Global,
     left: &[Outer],
     right: &[Outer],
+    pairs: &[(usize, usize)],
     blank: Blank,
-) -> Result<Vec<(usize, usize)>, NoMemory>
+) -> bool
     requires name { blank.name ≡ L.name }
     requires parts { blank.parts ≡ L.parts }
     requires some { 0 < L.parts }
@@ -46,11 +45,15 @@ fn counted<L: Ledger>(
     requires right_rises { Rises (λ o. o.lo) right.now }
 {
     let mut steps = Steps::<L>::open(blank);
-    let found = candidates(alloc, left, right, &mut steps)?;
-    if left.len() == 2 && right.len() == 1 && found.len() == 2 {
-        at_most_eight(&steps);
+    match candidates(alloc, left, right, &mut steps) {
+        Ok(mut found) => {
+            if left.len() == 2 && right.len() == 1 && found.len() == 2 {
+                at_most_eight(&steps);
+            }
+            found.sort().is_ok() && found.as_slice() == pairs
+        }
+        Err(_) => false,
     }
-    Ok(found)
 }
 
 // At most eight steps were taken.
@@ -59,35 +62,13 @@ fn at_most_eight<L: Ledger>(steps: &Steps<L>)
 {}
 
 #[test]
-fn each_pair_of_spans_that_overlap_is_told_once(rt: HostRuntime) -> Result<(), NoMemory> {
+fn each_pair_of_spans_that_overlap_is_told_once(rt: HostRuntime) {
     let alloc = rt.alloc();
-    let one = span(5, 7);
-    let (wide, short) = (span(0, 10), span(5, 6));
-    let (early, late) = (span(0, 5), span(7, 9));
-    for (name, found, wanted) in [
-        (
-            "two in one",
-            pairs(alloc, &[wide, short], &[one])?,
-            [(0, 0), (1, 0)].as_slice(),
-        ),
-        (
-            "all equal",
-            pairs(alloc, &[one, one], &[one, one])?,
-            [(0, 0), (0, 1), (1, 0), (1, 1)].as_slice(),
-        ),
-        (
-            "none overlap",
-            pairs(alloc, &[early, late], &[one])?,
-            [].as_slice(),
-        ),
-        (
-            "no right",
-            pairs(alloc, &[early, late], &[])?,
-            [].as_slice(),
-        ),
-        ("no left", pairs(alloc, &[], &[one])?, [].as_slice()),
-    ] {
-        assert_eq!(rt; found.as_slice(), wanted, "{name}");
-    }
-    Ok(())
+    let one = [span(5, 7)];
+    let same = [span(5, 7), span(5, 7)];
+    let apart = [span(0, 5), span(7, 9)];
+    assert!(rt; are_pairs(alloc, &[span(0, 10), span(5, 6)], &one, &[(0, 0), (1, 0)]));
+    assert!(rt; are_pairs(alloc, &same, &same, &[(0, 0), (0, 1), (1, 0), (1, 1)]));
+    assert!(rt; are_pairs(alloc, &apart, &one, &[]));
+    assert!(rt; are_pairs(alloc, &apart, &[], &[]) && are_pairs(alloc, &[], &one, &[]));
 }

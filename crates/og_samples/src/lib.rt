@@ -23,4 +23,6 @@ pub mod rows;
 #[cfg(test)]
 mod sets;
 #[cfg(test)]
+mod texts;
+#[cfg(test)]
 mod values;

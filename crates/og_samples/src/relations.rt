@@ -1,145 +1,207 @@
 //! Relations of rows of values: their rows on a day, by one worker or several, and two rows that are glued.
-use og_base::{NoMemory, RtSet, read_ref_day, write_rt};
+ghost use Rattle.std.specs.Prelude.{◌≤◌};
+ghost use Rattle.og_par.specs.Limits.{max_workers};
+
+use crate::texts::{cell, is_text, overlap, point, row};
+use og_base::{NoMemory, RefDay, RtSet, read_ref_day, write_rt};
 use og_expr::CondDays;
-use og_ops::test_pair;
+use og_ops::{Hit, test_pair};
 use og_par::OpenGate;
-use og_query::{Cond, Expr};
+use og_query::Expr;
 use og_rel::Rel;
 use og_time::OngoingPoint;
-use og_value::{FixedRow, Kind, Pred, Row, Value, read_cell, write_cell, write_fixed};
+use og_value::{FixedRow, Kind, Row, Value, write_cell, write_fixed};
 use std::alloc::Global;
-use std::test::Fail;
+use std::process::Abort;
+use std::thread::Threads;
 
-// The row of the cells.
-fn row(alloc: Global, cells: &[(Kind, &str)]) -> Result<Row, Fail> {
-    let mut values = Vec::new(alloc);
-    for (kind, text) in cells {
-        values.push(read_cell(alloc, *kind, text.as_bytes())?)?;
+// Appends the cells of the row with commas between them, as a line.
+fn add_line(row: &FixedRow, out: &mut Vec<u8>) -> Result<(), NoMemory> {
+    for i in 0..row.len() {
+        if i > 0 {
+            out.push(b',')?;
+        }
+        write_fixed(row.value(i), out)?;
     }
-    Ok(Row::of(values))
+    out.push(b'\n')?;
+    Ok(())
 }
 
-// The cells of the rows with commas between them, each row on a line.
-fn lines(alloc: Global, rows: &[FixedRow]) -> Result<Vec<u8>, NoMemory> {
+// Whether these are the lines of the rows.
+fn are_lines(alloc: Global, rows: &[FixedRow], text: &str) -> bool {
     let mut out = Vec::new(alloc);
     for row in rows {
-        for i in 0..row.len() {
-            if i > 0 {
-                out.push(b',')?;
-            }
-            write_fixed(row.value(i), &mut out)?;
+        if add_line(row, &mut out).is_err() {
+            return false;
         }
-        out.push(b'\n')?;
     }
-    Ok(out)
+    is_text(out.as_slice(), text)
 }
 
-// The lines of the relation on the day.
-fn lines_on(alloc: Global, rel: &Rel<Row>, day: &str) -> Result<Vec<u8>, Fail> {
-    let rows = rel.at(read_ref_day(day.as_bytes())?)?;
-    Ok(lines(alloc, rows.as_slice())?)
+// Whether these are the lines of the relation on the day.
+fn has_lines(alloc: Global, rel: &Rel<Row>, day: RefDay, text: &str) -> bool {
+    match rel.at(day) {
+        Ok(rows) => are_lines(alloc, rows.as_slice(), text),
+        Err(_) => false,
+    }
+}
+
+// All days.
+fn all_days<H: AllocGlobal + Abort>(rt: &H) -> RtSet {
+    RtSet::all(rt.alloc()).expect(rt, "memory")
+}
+
+// Appends the row on the days.
+fn add_row<H: Abort>(rt: &H, row: Row, days: RtSet, rel: &mut Rel<Row>) {
+    assert!(rt; rel.push(row, days).is_ok());
 }
 
 // The relation of the point now, twice on all days and once on none.
-fn twice(alloc: Global) -> Result<Rel<Row>, Fail> {
-    let mut rel = Rel::new(alloc);
-    let cells = [(Kind::Date, "now")];
-    rel.push(row(alloc, cells.as_slice())?, RtSet::all(alloc)?)?;
-    rel.push(row(alloc, cells.as_slice())?, RtSet::all(alloc)?)?;
-    rel.push(row(alloc, &[])?, RtSet::empty(alloc))?;
-    Ok(rel)
+fn twice<H: AllocGlobal + Abort>(rt: &H) -> Rel<Row> {
+    let mut rel = Rel::new(rt.alloc());
+    add_row(
+        rt,
+        row(rt, [cell(rt, Kind::Date, "now")]),
+        all_days(rt),
+        &mut rel,
+    );
+    add_row(
+        rt,
+        row(rt, [cell(rt, Kind::Date, "now")]),
+        all_days(rt),
+        &mut rel,
+    );
+    add_row(rt, row(rt, []), RtSet::empty(rt.alloc()), &mut rel);
+    rel
+}
+
+// Whether the relation is of that many rows, and these are its lines on the day.
+fn lists(alloc: Global, rel: &Rel<Row>, len: usize, day: &str, text: &str) -> bool {
+    match read_ref_day(day.as_bytes()) {
+        Ok(day) => rel.len() == len && has_lines(alloc, rel, day, text),
+        Err(_) => false,
+    }
 }
 
 #[test]
-fn a_row_that_stands_twice_is_listed_once_and_one_without_days_is_left_out(
-    rt: HostRuntime,
-) -> Result<(), Fail> {
-    let mut rel = twice(rt.alloc())?;
-    let copy = rel.copy()?;
-    assert_eq!(rt; copy.len(), 2);
-    let day = lines_on(rt.alloc(), &copy, "2020-05-01")?;
-    assert_eq!(rt; day.as_slice(), b"2020-05-01\n".as_slice());
-    rel.append(copy)?;
-    assert_eq!(rt; rel.len(), 4);
-    let next = lines_on(rt.alloc(), &rel, "2020-05-02")?;
-    assert_eq!(rt; next.as_slice(), b"2020-05-02\n".as_slice());
-    Ok(())
+fn a_row_that_stands_twice_is_listed_once_and_one_without_days_is_left_out(rt: HostRuntime) {
+    let mut rel = twice(&rt);
+    let copy = rel.copy().expect(&rt, "memory");
+    assert!(rt; lists(rt.alloc(), &copy, 2, "2020-05-01", "2020-05-01\n"));
+    rel.append(copy).expect(&rt, "memory");
+    assert!(rt; lists(rt.alloc(), &rel, 4, "2020-05-02", "2020-05-02\n"));
 }
 
 // 4,096 rows on all days, of a number below 1,000 and the point.
-fn numbered(alloc: Global, point: OngoingPoint) -> Result<Rel<Row>, NoMemory> {
-    let mut rel = Rel::new(alloc);
+fn numbered<H: AllocGlobal + Abort>(rt: &H, point: OngoingPoint) -> Rel<Row> {
+    let mut rel = Rel::new(rt.alloc());
     for i in 0..4096_i64 {
-        let mut values = Vec::with_capacity(alloc, 2)?;
-        values.push(Value::Int(i % 1000))?;
-        values.push(Value::Point(point))?;
-        rel.push(Row::of(values), RtSet::all(alloc)?)?;
+        add_row(
+            rt,
+            row(rt, [Value::Int(i % 1000), Value::Point(point)]),
+            all_days(rt),
+            &mut rel,
+        );
     }
-    Ok(rel)
+    rel
 }
 
 // The lines that are wanted: each number below 1,000, and the day.
-fn wanted(alloc: Global) -> Result<String, NoMemory> {
-    let mut out = String::new(alloc);
-    for i in 0..1000 {
-        let line = format!(in alloc; "{i},2020-05-01\n")?;
-        out.push_str(line.as_str())?;
+fn wanted<H: AllocGlobal + Abort>(rt: &H) -> String {
+    let mut out = String::new(rt.alloc());
+    for number in 0..1000 {
+        let line = format!(in rt.alloc(); "{number},2020-05-01\n").expect(rt, "memory");
+        out.push_str(line.as_str()).expect(rt, "memory");
     }
-    Ok(out)
+    out
+}
+
+// Whether these are the lines of the relation on the day, as that many workers list it.
+fn has_lines_by<H: AllocGlobal + Threads + Sync>(
+    rt: &H,
+    workers: usize,
+    rel: &Rel<Row>,
+    day: RefDay,
+    text: &str,
+) -> bool
+    requires least { 1 ≤ workers }
+    requires most { workers ≤ max_workers }
+{
+    match rel.at_workers(rt, workers, day, &OpenGate) {
+        Ok(rows) => are_lines(rt.alloc(), rows.as_slice(), text),
+        Err(_) => false,
+    }
 }
 
 #[test]
-fn a_relation_is_one_list_for_all_numbers_of_workers(rt: HostRuntime) -> Result<(), Fail> {
-    let rel = numbered(rt.alloc(), og_time::read_point(b"now")?)?;
-    let day = read_ref_day(b"2020-05-01")?;
-    let wanted = wanted(rt.alloc())?;
+fn a_relation_is_one_list_for_all_numbers_of_workers(rt: HostRuntime) {
+    let rel = numbered(&rt, point(&rt, "now"));
+    let day = read_ref_day(b"2020-05-01").expect(&rt, "a day");
+    let wanted = wanted(&rt);
     for workers in &[1, 2, 64] {
-        let rows = rel.at_workers(&rt, *workers, day, &OpenGate)?;
-        let lines = lines(rt.alloc(), rows.as_slice())?;
-        assert_eq!(rt; lines.as_slice(), wanted.as_bytes(), "{workers} workers");
+        assert!(rt;
+            has_lines_by(&rt, *workers, &rel, day, wanted.as_str()),
+            "{workers} workers"
+        );
     }
-    Ok(())
 }
 
 // The bug or the patch of that number, in the spam filter, with its period.
-fn filed<'a>(alloc: Global, number: &'a str, period: &'a str) -> Result<Row, Fail> {
-    let filter = (Kind::Text, "Spam filter");
+fn filed<H: AllocGlobal + Abort>(rt: &H, number: &str, period: &str) -> Row {
     row(
-        alloc,
-        &[(Kind::Int, number), filter, (Kind::Period, period)],
+        rt,
+        [
+            cell(rt, Kind::Int, number),
+            cell(rt, Kind::Text, "Spam filter"),
+            cell(rt, Kind::Period, period),
+        ],
     )
 }
 
-// The days on which the periods of the two rows overlap, and the cells of the two glued; no bytes where
-// there is no such day.
-fn glued_on(alloc: Global, bug: &Row, patch: &Row) -> Result<Vec<u8>, Fail> {
-    let mut out = Vec::new(alloc);
-    let all = RtSet::all(alloc)?;
-    let overlap = Cond::Relate {
-        pred: Pred::Overlaps,
-        left: Expr::Column(2),
-        right: Expr::Column(5),
-    };
-    let cond = CondDays { cond: &overlap };
-    if let Some(hit) = test_pair(alloc, bug, &all, patch, &all, &cond)? {
-        write_rt(&hit.days, &mut out)?;
-        for i in 0..hit.row.len() {
-            out.push(b' ')?;
-            write_cell(hit.row.value(i), &mut out)?;
-        }
+// Appends the days of the glued row and its cells, with blanks between them.
+fn add_hit(hit: &Hit<Row>, out: &mut Vec<u8>) -> Result<(), NoMemory> {
+    write_rt(&hit.days, out)?;
+    for i in 0..hit.row.len() {
+        out.push(b' ')?;
+        write_cell(hit.row.value(i), out)?;
     }
-    Ok(out)
+    Ok(())
+}
+
+// The two rows glued on the days on which their periods overlap, where there are such days.
+fn glued<H: AllocGlobal + Abort>(rt: &H, bug: Row, patch: Row) -> Option<Hit<Row>> {
+    let all = all_days(rt);
+    let overlap = overlap(rt, Expr::Column(2), Expr::Column(5));
+    let cond = CondDays { cond: &overlap };
+    test_pair(rt.alloc(), &bug, &all, &patch, &all, &cond).expect(rt, "memory")
+}
+
+// Whether the text is that of the glued row; no bytes where there is none.
+fn is_hit(alloc: Global, hit: Option<Hit<Row>>, text: &str) -> bool {
+    match hit {
+        Some(hit) => {
+            let mut out = Vec::new(alloc);
+            add_hit(&hit, &mut out).is_ok() && is_text(out.as_slice(), text)
+        }
+        None => text.is_empty(),
+    }
 }
 
 #[test]
-fn a_pair_is_glued_on_the_days_on_which_the_periods_overlap(rt: HostRuntime) -> Result<(), Fail> {
-    let alloc = rt.alloc();
-    let patch = filed(alloc, "202", "[2020-08-24,now)")?;
-    let glued = glued_on(alloc, &filed(alloc, "500", "[2020-01-25,now)")?, &patch)?;
-    let wanted =
-        b"{[2020-08-25,infinity)} 500 Spam filter [2020-01-25,now) 202 Spam filter [2020-08-24,now)";
-    assert_eq!(rt; glued.as_slice(), wanted.as_slice());
-    let bug = filed(alloc, "501", "[2020-03-30,2020-08-21)")?;
-    assert!(rt; glued_on(alloc, &bug, &patch)?.is_empty());
-    Ok(())
+fn a_pair_is_glued_on_the_days_on_which_the_periods_overlap(rt: HostRuntime) {
+    for (number, period, text) in &[
+        (
+            "500",
+            "[2020-01-25,now)",
+            "{[2020-08-25,infinity)} 500 Spam filter [2020-01-25,now) 202 Spam filter [2020-08-24,now)",
+        ),
+        ("501", "[2020-03-30,2020-08-21)", ""),
+    ] {
+        let bug = filed(&rt, number, period);
+        let patch = filed(&rt, "202", "[2020-08-24,now)");
+        assert!(rt;
+            is_hit(rt.alloc(), glued(&rt, bug, patch), text),
+            "{number}"
+        );
+    }
 }

@@ -77,21 +77,28 @@ mod tests {
     use super::*;
 
     #[test]
-    fn a_deadline_passes_on_the_day_after_it(rt: HostRuntime) -> Result<(), NoMemory> {
-        let row = glued(
-            rt.alloc(),
-            &Deadline { day: RefDay::LAST },
-            &Deadline { day: RefDay::FIRST },
-        )?;
-        let later = mapped(rt.alloc(), &PutOff { to: RefDay::LAST }, &row)?;
-        assert_eq!(rt; value(rt.alloc(), &row, RefDay::LAST)?, RefDay::FIRST);
-        assert!(rt; held(rt.alloc(), &Passed, &row, RefDay::LAST)?);
-        assert!(rt; !held(rt.alloc(), &Passed, &row, RefDay::FIRST)?);
-        assert!(rt; !held(rt.alloc(), &Passed, &later, RefDay::LAST)?);
-        assert!(rt; alike(rt.alloc(), &row, &later)?.is_empty());
-        let same = alike(rt.alloc(), &row, &copied(rt.alloc(), &row)?)?;
-        assert!(rt; same.contains(RefDay::LAST));
-        Ok(())
+    fn a_deadline_passes_on_the_day_after_it(rt: HostRuntime) {
+        let alloc = rt.alloc();
+        let first = Deadline { day: RefDay::FIRST };
+        let last = Deadline { day: RefDay::LAST };
+        let row = glued(alloc, &last, &first).expect(&rt, "memory");
+        let later = mapped(alloc, &PutOff { to: last.day }, &row).expect(&rt, "memory");
+        assert!(rt; passes_after_it(alloc, row));
+        assert!(rt; passes_on_no_day(alloc, later));
+        let copy = copied(alloc, &row).expect(&rt, "memory");
+        assert!(rt; are_alike(alloc, &row, &copy, true) && are_alike(alloc, &row, &later, false));
+    }
+
+    // Whether the deadline is the first day, and has passed on the last.
+    fn passes_after_it(alloc: Global, row: Deadline) -> bool {
+        has_value(alloc, &row, RefDay::LAST, &RefDay::FIRST)
+            && holds(alloc, &Passed, &row, RefDay::LAST, true)
+            && holds(alloc, &Passed, &row, RefDay::FIRST, false)
+    }
+
+    // Whether the deadline has not passed on the last day.
+    fn passes_on_no_day(alloc: Global, row: Deadline) -> bool {
+        holds(alloc, &Passed, &row, RefDay::LAST, false)
     }
 
     // The second row glued to the first.
@@ -99,14 +106,20 @@ mod tests {
         left.glue(alloc, right)
     }
 
-    // The row's value on the day.
-    fn value<R: Instant>(alloc: Global, row: &R, d: RefDay) -> Result<R::Fixed, NoMemory> {
-        row.at(alloc, d)
+    // Whether this is the row's value on the day.
+    fn has_value<R: Instant>(alloc: Global, row: &R, d: RefDay, value: &R::Fixed) -> bool {
+        match row.at(alloc, d) {
+            Ok(found) => found == *value,
+            Err(_) => false,
+        }
     }
 
-    // The days on which both rows are equal.
-    fn alike<R: OngoingRow>(alloc: Global, left: &R, right: &R) -> Result<RtSet, NoMemory> {
-        left.same(alloc, right)
+    // Whether both rows are equal on the last day where they are to be alike, and else on no day.
+    fn are_alike<R: OngoingRow>(alloc: Global, left: &R, right: &R, alike: bool) -> bool {
+        match left.same(alloc, right) {
+            Ok(days) => days.contains(RefDay::LAST) == alike && days.is_empty() != alike,
+            Err(_) => false,
+        }
     }
 
     // The same row once more.
@@ -119,13 +132,17 @@ mod tests {
         map.map(alloc, row)
     }
 
-    // Whether the condition holds of the row on the day.
-    fn held<R: Glue + Drop, C: DayCond<R>>(
+    // Whether it is told of the condition that it holds of the row on the day, or that it does not.
+    fn holds<R: Glue + Drop, C: DayCond<R>>(
         alloc: Global,
         condition: &C,
         row: &R,
         d: RefDay,
-    ) -> Result<bool, NoMemory> {
-        Ok(condition.days(alloc, row)?.contains(d))
+        held: bool,
+    ) -> bool {
+        match condition.days(alloc, row) {
+            Ok(days) => days.contains(d) == held,
+            Err(_) => false,
+        }
     }
 }

@@ -1,18 +1,19 @@
 //! Sets of days by their texts.
-use og_base::{Cut, NoMemory, RtRefusal, RtSet, meet_cuts, read_day, read_rt, write_rt};
-use og_time::read_point;
+use crate::texts::{assert_found, day, has_text, point, set};
+use og_base::{NoMemory, RtRefusal, RtSet, meet_cuts, read_rt};
 use std::alloc::Global;
-use std::test::Fail;
+use std::process::Abort;
 
-// The text of the set.
-fn text_of(alloc: Global, set: &RtSet) -> Result<Vec<u8>, NoMemory> {
-    let mut out = Vec::new(alloc);
-    write_rt(set, &mut out)?;
-    Ok(out)
+// Whether the text is read as a set and written for it.
+fn is_set_text(alloc: Global, text: &str) -> bool {
+    match read_rt(alloc, text.as_bytes()) {
+        Ok(set) => has_text(alloc, &set, text),
+        Err(_) => false,
+    }
 }
 
 #[test]
-fn each_set_text_is_read_and_written(rt: HostRuntime) -> Result<(), Fail> {
+fn each_set_text_is_read_and_written(rt: HostRuntime) {
     for text in &[
         "{}",
         "{[-infinity,infinity)}",
@@ -20,14 +21,13 @@ fn each_set_text_is_read_and_written(rt: HostRuntime) -> Result<(), Fail> {
         "{[-infinity,2020-01-01),[2020-01-05,infinity)}",
         "{[0001-01-01,infinity)}",
     ] {
-        let set = read_rt(rt.alloc(), text.as_bytes())?;
-        assert_eq!(rt;
-            text_of(rt.alloc(), &set)?.as_slice(),
-            text.as_bytes(),
-            "{text}"
-        );
+        assert!(rt; is_set_text(rt.alloc(), text), "{text}");
     }
-    Ok(())
+}
+
+// Whether the text is refused as one of no set.
+fn is_no_set(alloc: Global, text: &str) -> bool {
+    read_rt(alloc, text.as_bytes()).err() == Some(RtRefusal::NotASet)
 }
 
 #[test]
@@ -45,72 +45,69 @@ fn no_other_text_is_a_set(rt: HostRuntime) {
         "{[infinity,infinity)}",
         "{[2020-01-01,-infinity)}",
     ] {
-        let read = read_rt(rt.alloc(), text.as_bytes());
-        assert_eq!(rt; read.err(), Some(RtRefusal::NotASet), "{text}");
+        assert!(rt; is_no_set(rt.alloc(), text), "{text}");
     }
 }
 
-#[test]
-fn sets_that_touch_unite_to_one_range(rt: HostRuntime) -> Result<(), Fail> {
-    let first = read_rt(rt.alloc(), b"{[2020-01-01,2020-01-05)}")?;
-    let second = read_rt(rt.alloc(), b"{[2020-01-05,infinity)}")?;
-    let both = text_of(rt.alloc(), &first.union(&second)?)?;
-    assert_eq!(rt; both.as_slice(), b"{[2020-01-01,infinity)}".as_slice());
-    assert!(rt; first.meet(&second)?.is_empty());
-    Ok(())
+// Whether there is no day in the set that was found.
+fn is_empty(found: Result<RtSet, NoMemory>) -> bool {
+    match found {
+        Ok(set) => set.is_empty(),
+        Err(_) => false,
+    }
+}
+
+// Asserts that there is no day in the set that was found.
+fn assert_empty<H: Abort>(rt: &H, found: Result<RtSet, NoMemory>) {
+    assert!(rt; is_empty(found));
 }
 
 #[test]
-fn a_set_is_taken_out_of_another_and_of_all_days(rt: HostRuntime) -> Result<(), Fail> {
-    let set = read_rt(rt.alloc(), b"{[2020-01-01,2020-01-05)}")?;
-    let early = RtSet::below(rt.alloc(), read_day(b"2020-01-03")?)?;
-    let late = text_of(rt.alloc(), &set.minus(&early)?)?;
-    assert_eq!(rt; late.as_slice(), b"{[2020-01-03,2020-01-05)}".as_slice());
-    let others = text_of(rt.alloc(), &set.copy()?.complement()?)?;
-    let wanted = b"{[-infinity,2020-01-01),[2020-01-05,infinity)}".as_slice();
-    assert_eq!(rt; others.as_slice(), wanted);
-    Ok(())
+fn sets_that_touch_unite_to_one_range(rt: HostRuntime) {
+    let first = set(&rt, "{[2020-01-01,2020-01-05)}");
+    let second = set(&rt, "{[2020-01-05,infinity)}");
+    assert_found(&rt, first.union(&second), "{[2020-01-01,infinity)}");
+    assert_empty(&rt, first.meet(&second));
 }
 
 #[test]
-fn no_day_is_below_all_or_above_the_last(rt: HostRuntime) -> Result<(), Fail> {
-    assert!(rt; RtSet::below(rt.alloc(), read_day(b"-infinity")?)?.is_empty());
-    assert!(rt; RtSet::above(rt.alloc(), read_day(b"9999-12-31")?)?.is_empty());
-    Ok(())
-}
-
-// The text of the days that the four cuts have in common.
-fn days_of(alloc: Global, cuts: [Cut; 4]) -> Result<Vec<u8>, NoMemory> {
-    let [first, second, third, fourth] = cuts;
-    text_of(alloc, &meet_cuts(alloc, first, second, third, fourth)?)
+fn a_set_is_taken_out_of_another_and_of_all_days(rt: HostRuntime) {
+    let first = set(&rt, "{[2020-01-01,2020-01-05)}");
+    let early = RtSet::below(rt.alloc(), day(&rt, "2020-01-03")).expect(&rt, "memory");
+    assert_found(&rt, first.minus(&early), "{[2020-01-03,2020-01-05)}");
+    let copy = first.copy().expect(&rt, "memory");
+    let others = "{[-infinity,2020-01-01),[2020-01-05,infinity)}";
+    assert_found(&rt, copy.complement(), others);
 }
 
 #[test]
-fn the_days_of_four_cuts_are_one_set(rt: HostRuntime) -> Result<(), Fail> {
-    let now = read_point(b"now")?;
-    let august = read_point(b"2020-08-15")?;
-    let cuts = [
-        read_point(b"2020-01-25")?.lt_days(now),
+fn no_day_is_below_all_or_above_the_last(rt: HostRuntime) {
+    assert_empty(&rt, RtSet::below(rt.alloc(), day(&rt, "-infinity")));
+    assert_empty(&rt, RtSet::above(rt.alloc(), day(&rt, "9999-12-31")));
+}
+
+#[test]
+fn the_days_of_four_cuts_are_one_set(rt: HostRuntime) {
+    let now = point(&rt, "now");
+    let august = point(&rt, "2020-08-15");
+    let days = meet_cuts(
+        rt.alloc(),
+        point(&rt, "2020-01-25").lt_days(now),
         now.le_days(now),
         now.le_days(august),
         august.le_days(now),
-    ];
-    let days = days_of(rt.alloc(), cuts)?;
-    assert_eq!(rt; days.as_slice(), b"{[2020-08-15,2020-08-16)}".as_slice());
-    Ok(())
+    );
+    assert_found(&rt, days, "{[2020-08-15,2020-08-16)}");
 }
 
 #[test]
-fn the_days_of_two_parts_are_two_ranges(rt: HostRuntime) -> Result<(), Fail> {
-    let now = read_point(b"now")?;
-    let early = read_point(b"2019-12-01+2020-01-31")?;
-    let parts = early.lt_days(read_point(b"2020-01-01+2020-03-01")?);
-    let round = now.eq_days(read_point(b"2019-12-31+2020-02-01")?);
-    let days = days_of(
-        rt.alloc(),
-        [parts, round, now.le_days(now), now.le_days(now)],
-    )?;
-    let wanted = b"{[2019-12-31,2020-01-01),[2020-02-01,2020-02-02)}".as_slice();
-    assert_eq!(rt; days.as_slice(), wanted);
-    Ok(())
+fn the_days_of_two_parts_are_two_ranges(rt: HostRuntime) {
+    let now = point(&rt, "now");
+    let early = point(&rt, "2019-12-01+2020-01-31");
+    let parts = early.lt_days(point(&rt, "2020-01-01+2020-03-01"));
+    let round = now.eq_days(point(&rt, "2019-12-31+2020-02-01"));
+    let all = now.le_days(now);
+    let days = meet_cuts(rt.alloc(), parts, round, all, all);
+    let wanted = "{[2019-12-31,2020-01-01),[2020-02-01,2020-02-02)}";
+    assert_found(&rt, days, wanted);
 }

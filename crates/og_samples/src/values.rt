@@ -1,117 +1,153 @@
 //! Names, texts and schemas, and the cells of values by their texts.
-use og_value::{Column, Kind, Name, Schema, Text, read_cell, write_cell};
+use crate::texts::is_text;
+use og_value::{
+    CellRefusal, Column, Kind, Name, NameRefusal, Schema, Text, TextRefusal, Value, read_cell,
+    write_cell,
+};
 use std::alloc::Global;
-use std::process::Abort;
-use std::test::Fail;
 
-// Asserts that each word is read as that name.
-fn assert_names<H: AllocGlobal + Abort>(rt: &H, cases: &[(&str, &str)]) -> Result<(), Fail> {
-    for (word, name) in cases {
-        let read = Name::of(rt.alloc(), word.as_bytes())?;
-        assert_eq!(rt; read.as_str(), *name);
-        assert_eq!(rt; read.copy()?.bytes(), name.as_bytes());
+// Whether a copy of the name has its bytes.
+fn is_copied(read: &Name, name: &str) -> bool {
+    match read.copy() {
+        Ok(copy) => is_text(copy.bytes(), name),
+        Err(_) => false,
     }
-    Ok(())
+}
+
+// Whether the word is read as that name, and a copy of it is the same.
+fn is_name(alloc: Global, word: &str, name: &str) -> bool {
+    match Name::of(alloc, word.as_bytes()) {
+        Ok(read) => read.as_str() == name && is_copied(&read, name),
+        Err(_) => false,
+    }
+}
+
+// Whether the bytes are refused as a name.
+fn is_no_name(alloc: Global, bytes: &[u8]) -> bool {
+    Name::of(alloc, bytes).err() == Some(NameRefusal::NotAName)
 }
 
 #[test]
-fn a_name_is_a_word_in_lower_case(rt: HostRuntime) -> Result<(), Fail> {
-    assert!(rt; Name::of(rt.alloc(), b"2x").is_err());
-    assert_names(&rt, &[("ID", "id"), ("_a1", "_a1"), ("Select", "select")])
+fn a_name_is_a_word_in_lower_case(rt: HostRuntime) {
+    assert!(rt; is_no_name(rt.alloc(), b"2x"));
+    for (word, name) in &[("ID", "id"), ("_a1", "_a1"), ("Select", "select")] {
+        assert!(rt; is_name(rt.alloc(), word, name), "{word}");
+    }
 }
 
-// Asserts that each text is read and copied as it is.
-fn assert_texts<H: AllocGlobal + Abort>(rt: &H, texts: &[&str]) -> Result<(), Fail> {
-    for text in texts {
-        let read = Text::of(rt.alloc(), text.as_bytes())?;
-        assert_eq!(rt; read.as_str(), *text);
-        assert_eq!(rt; read.bytes(), text.as_bytes());
-        assert!(rt; read.copy()? == read);
+// Whether the text has its bytes, and a copy is the same.
+fn is_kept(read: &Text, text: &str) -> bool {
+    match read.copy() {
+        Ok(copy) => copy == *read && read.as_str() == text && is_text(read.bytes(), text),
+        Err(_) => false,
     }
-    Ok(())
+}
+
+// Whether the text is read as it is.
+fn is_read(alloc: Global, text: &str) -> bool {
+    match Text::of(alloc, text.as_bytes()) {
+        Ok(read) => is_kept(&read, text),
+        Err(_) => false,
+    }
+}
+
+// Whether the bytes are refused as a text.
+fn is_no_text(alloc: Global, bytes: &[u8]) -> bool {
+    Text::of(alloc, bytes).err() == Some(TextRefusal::NotText)
 }
 
 // Texts of up to 14 bytes are held otherwise than longer ones.
 #[test]
-fn a_text_is_utf8(rt: HostRuntime) -> Result<(), Fail> {
-    let refused = Text::of(rt.alloc(), b"\xff").is_err();
-    assert!(rt; refused);
-    assert_texts(&rt, &["", "a", "fourteen bytes", "fourteen bytes!"])
+fn a_text_is_utf8(rt: HostRuntime) {
+    assert!(rt; is_no_text(rt.alloc(), b"\xff"));
+    for text in &["", "a", "fourteen bytes", "fourteen bytes!"] {
+        assert!(rt; is_read(rt.alloc(), text), "{text}");
+    }
 }
 
-// Asserts that a schema of the column has it, and its copy too.
-fn assert_schema<H: AllocGlobal + Abort>(rt: &H, column: &Column) -> Result<(), Fail> {
-    let mut columns = Vec::new(rt.alloc());
-    columns.push(column.copy()?)?;
-    let schema = Schema::of(columns);
-    assert_eq!(rt; schema.len(), 1);
-    assert!(rt; *schema.column(0) == *column);
-    assert!(rt; schema.copy()? == schema);
-    Ok(())
+// Whether it is a schema of the one column.
+fn is_schema_of(schema: &Schema, column: &Column) -> bool {
+    match schema.copy() {
+        Ok(copy) => copy == *schema && schema.len() == 1 && *schema.column(0) == *column,
+        Err(_) => false,
+    }
 }
 
 #[test]
-fn a_schema_has_its_columns(rt: HostRuntime) -> Result<(), Fail> {
+fn a_schema_has_its_columns(rt: HostRuntime) {
     let column = Column {
-        name: Name::of(rt.alloc(), b"id")?,
+        name: Name::of(rt.alloc(), b"id").expect(&rt, "a name"),
         kind: Kind::Int,
     };
-    assert_schema(&rt, &column)
+    let copy = column.copy().expect(&rt, "memory");
+    let columns = Vec::from_array(rt.alloc(), [copy]).expect(&rt, "memory");
+    assert!(rt; is_schema_of(&Schema::of(columns), &column));
 }
 
-// Asserts that each text is a cell of the kind, and is written so.
-fn assert_cells<H: AllocGlobal + Abort>(rt: &H, cases: &[(Kind, &str, &str)]) -> Result<(), Fail> {
-    for (kind, text, written) in cases {
-        let value = read_cell(rt.alloc(), *kind, text.as_bytes())?;
-        assert!(rt; value.copy()? == value, "{text}");
-        let mut out = Vec::new(rt.alloc());
-        write_cell(&value, &mut out)?;
-        assert_eq!(rt; out.as_slice(), written.as_bytes(), "{text}");
+// Whether a copy of the value is the same.
+fn is_same(value: &Value) -> bool {
+    match value.copy() {
+        Ok(copy) => copy == *value,
+        Err(_) => false,
     }
-    Ok(())
+}
+
+// Whether the value is written as the text.
+fn is_written(alloc: Global, value: &Value, text: &str) -> bool {
+    let mut out = Vec::new(alloc);
+    write_cell(value, &mut out).is_ok() && is_text(out.as_slice(), text)
+}
+
+// Whether the text is a cell of the kind, and is written so.
+fn is_cell(alloc: Global, kind: Kind, text: &str, written: &str) -> bool {
+    match read_cell(alloc, kind, text.as_bytes()) {
+        Ok(value) => is_written(alloc, &value, written) && is_same(&value),
+        Err(_) => false,
+    }
 }
 
 #[test]
-fn each_cell_is_read_and_written_again(rt: HostRuntime) -> Result<(), Fail> {
-    assert_cells(
-        &rt,
-        &[
-            (Kind::Int, "7", "7"),
-            (Kind::Int, "007", "7"),
-            (Kind::Int, "-0", "0"),
-            (Kind::Int, "-9223372036854775808", "-9223372036854775808"),
-            (Kind::Int, "9223372036854775807", "9223372036854775807"),
-            (Kind::Text, "", ""),
-            (Kind::Text, "+7, \u{e4}", "+7, \u{e4}"),
-            (Kind::Date, "now", "now"),
-            (Kind::Date, "2020-01-01+", "2020-01-01+"),
-            (Kind::Period, "[now,infinity)", "[now,infinity)"),
-        ],
-    )
+fn each_cell_is_read_and_written_again(rt: HostRuntime) {
+    for (kind, text, written) in &[
+        (Kind::Int, "7", "7"),
+        (Kind::Int, "007", "7"),
+        (Kind::Int, "-0", "0"),
+        (Kind::Int, "-9223372036854775808", "-9223372036854775808"),
+        (Kind::Int, "9223372036854775807", "9223372036854775807"),
+        (Kind::Text, "", ""),
+        (Kind::Text, "+7, \u{e4}", "+7, \u{e4}"),
+        (Kind::Date, "now", "now"),
+        (Kind::Date, "+2020-06-30", "+2020-06-30"),
+        (Kind::Date, "2020-01-01+", "2020-01-01+"),
+        (Kind::Period, "[now,infinity)", "[now,infinity)"),
+        (
+            Kind::Period,
+            "[-000044-03-15+2020-01-01,2020-01-01+)",
+            "[-000044-03-15+2020-01-01,2020-01-01+)",
+        ),
+    ] {
+        assert!(rt; is_cell(rt.alloc(), *kind, text, written), "{text}");
+    }
 }
 
-// Asserts that no text is a cell of the kind.
-fn assert_no_cells<H: AllocGlobal + Abort>(rt: &H, cases: &[(Kind, &[u8])]) {
-    for (kind, text) in cases {
-        let refused = read_cell(rt.alloc(), *kind, text).is_err();
-        assert!(rt; refused);
-    }
+// Whether the bytes are refused as a cell of the kind.
+fn is_no_cell(alloc: Global, kind: Kind, bytes: &[u8]) -> bool {
+    read_cell(alloc, kind, bytes).err() == Some(CellRefusal::NotACell)
 }
 
 #[test]
 fn other_texts_are_no_cells(rt: HostRuntime) {
-    assert_no_cells(
-        &rt,
-        &[
-            (Kind::Int, b"+7"),
-            (Kind::Int, b""),
-            (Kind::Int, b"-"),
-            (Kind::Int, b" 7"),
-            (Kind::Int, b"9223372036854775808"),
-            (Kind::Int, b"-9223372036854775809"),
-            (Kind::Text, b"\xff"),
-            (Kind::Date, b"2019-02-29"),
-            (Kind::Period, b"now"),
-        ],
-    );
+    for (kind, text) in &[
+        (Kind::Int, "+7"),
+        (Kind::Int, ""),
+        (Kind::Int, "-"),
+        (Kind::Int, " 7"),
+        (Kind::Int, "9223372036854775808"),
+        (Kind::Int, "-9223372036854775809"),
+        (Kind::Date, "2019-02-29"),
+        (Kind::Period, "now"),
+    ] {
+        assert!(rt; is_no_cell(rt.alloc(), *kind, text.as_bytes()), "{text}");
+    }
+    assert!(rt; is_no_cell(rt.alloc(), Kind::Text, b"\xff"));
 }
