@@ -17,6 +17,21 @@ pub record MemorySink : Type 0 where
   pub calls : ℕ
   pub faults : ℕ
 
+-- files in memory, each by its name and its bytes, and the bytes handed out; the call with the number `fail_at`, counted from 1, fails
+pub record MemoryFiles : Type 0 where
+  pub files : List (List ℕ × List ℕ)
+  pub buffer : List ℕ
+  pub fail_at : Option ℕ
+  pub calls : ℕ
+  pub faults : ℕ
+  pub absences : ℕ
+
+-- the files of a folder, of which nothing is told but the bytes handed out
+pub record FolderDevice : Type 0 where
+  pub buffer : List ℕ
+  pub faults : ℕ
+  pub absences : ℕ
+
 -- a reader or a writer, and how often it failed
 pub record Counted (D : Type 0) : Type 0 where
   pub device : D

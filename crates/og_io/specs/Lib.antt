@@ -1,3 +1,6 @@
+pub mod BelowFolder
 pub mod Counts
 pub mod Devices
+pub mod FileCounts
+pub mod Folders
 pub mod Puts

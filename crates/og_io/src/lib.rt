@@ -1,22 +1,34 @@
-//! The outside: where bytes come from and where they go.
+//! The outside: where bytes come from, where they go, and files by their names.
 //!
-//! The traits `Source` and `Sink` say which of the bytes that a device tells are taken or appended,
-//! and that a call fails only where the count of faults rose (specs/Told.antt of og_base).
-//! `MemSource` and `MemSink` tell their bytes; one call of each may be made to fail. `StdSource`
-//! and `StdSink` are over std's readers and writers and tell what these tell, which is nothing of a
-//! real standard input and output. What devices are seen as stands in specs/Devices.antt.
+//! The traits `Source`, `Sink` and `Files` say which of the bytes that a device tells are taken,
+//! appended, handed out or replaced, that a call fails only where the count of faults rose, and that
+//! any other answer leaves this count (specs/Told.antt of og_base, specs/Folders.antt). `MemSource`,
+//! `MemSink` and `MemFiles` tell all of it; one call of each may be made to fail. `StdSource` and
+//! `StdSink` are over std's readers and writers and tell what these tell, which is nothing of a real
+//! standard input and output. `FolderFiles` are the files of the current folder, of which nothing is
+//! told; it refuses every name that leaves the folder (specs/BelowFolder.antt). What devices are seen
+//! as stands in specs/Devices.antt.
 //!
-//! No tests here: the adapters of readers and writers are tested in og_samples, and the cases are
-//! run over devices in memory that fail at each of their calls in turn.
+//! No tests here: the adapters of readers, writers and folders are tested in og_samples, and the cases
+//! are run over devices in memory that fail at each of their calls in turn.
 #![tactic(auto)]
 
+mod files;
+mod folder;
+mod folder_names;
 mod memory;
+mod memory_files;
+mod replaced;
 mod sink;
 mod source;
 mod standard;
 mod tally;
 
+pub use files::{Files, FilesRefusal, Found};
+pub use folder::FolderFiles;
 pub use memory::{MemSink, MemSource};
+pub use memory_files::MemFiles;
+pub use replaced::MAX_FILE;
 pub use sink::{PutRefusal, Sink};
 pub use source::{Failed, Source};
 pub use standard::{StdSink, StdSource};

@@ -74,6 +74,7 @@ impl Source for MemSource {
         ensures bound { ReadsAtMost result buf.new }
         ensures bytes { ReadConsumes (Some self.old.left) (Some self.new.left) result buf.new }
         ensures cause { HasCause self.old.faults self.new.faults result }
+        ensures kept { OnOk result (self.new.faults ≡ self.old.faults) }
         ensures count { IfOk result (λ n. n ≡ min (min (length self.old.left) (length buf.old)) self.old.step) }
         ensures failing { IsErr result ↔ (self.old.fail_at ≡ Some (raised self.old.calls)) }
         ensures refused { OnErr result (buf.new ≡ buf.old) }
@@ -154,6 +155,7 @@ impl Sink for MemSink {
         ensures refused { OnErr result (AppendsFront (Some self.old.written) (Some self.new.written) piece.now) }
         ensures later { self.old.faults ≤ self.new.faults }
         ensures failed { result ≡ Err PutRefusal.Failed → Rose self.old.faults self.new.faults }
+        ensures kept { ¬ (result ≡ Err PutRefusal.Failed) → self.new.faults ≡ self.old.faults }
         ensures unchanged { OnErr result (self.new.written ≡ self.old.written) }
         ensures failing { (result ≡ Err PutRefusal.Failed) ↔ (self.old.fail_at ≡ Some (raised self.old.calls)) }
         ensures calls { self.new.calls ≡ raised self.old.calls }

@@ -36,10 +36,12 @@ pub trait Sink {
     ghost faults: { Self → ℕ };
 
     /// Appends all bytes of the piece, or a front of it where it is refused: `Failed` where the device
-    /// failed, and then the count of faults rose, and `NoMemory` where memory ran out.
+    /// failed, and then the count of faults rose, and `NoMemory` where memory ran out. With any answer but
+    /// `Failed` the count stays.
     fn put(&mut self, piece: &[u8]) -> Result<(), PutRefusal>
         ensures ok { OnOk result (Appends (written self.old) (written self.new) piece.now) }
         ensures refused { OnErr result (AppendsFront (written self.old) (written self.new) piece.now) }
         ensures later { faults self.old ≤ faults self.new }
-        ensures failed { result ≡ Err PutRefusal.Failed → Rose (faults self.old) (faults self.new) };
+        ensures failed { result ≡ Err PutRefusal.Failed → Rose (faults self.old) (faults self.new) }
+        ensures kept { ¬ (result ≡ Err PutRefusal.Failed) → faults self.new ≡ faults self.old };
 }

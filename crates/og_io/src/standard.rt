@@ -46,6 +46,7 @@ impl<R: Read> Source for StdSource<R> {
         ensures bound { ReadsAtMost result buf.new }
         ensures bytes { ReadConsumes (R.remaining self.old.device) (R.remaining self.new.device) result buf.new }
         ensures cause { HasCause self.old.faults self.new.faults result }
+        ensures kept { OnOk result (self.new.faults ≡ self.old.faults) }
         ensures faults { self.new.faults ≡ faults_after result self.old.faults }
     {
         match self.reader.read(buf) {
@@ -99,6 +100,7 @@ impl<W: Write> Sink for StdSink<W> {
         ensures refused { OnErr result (AppendsFront (W.contents self.old.device) (W.contents self.new.device) piece.now) }
         ensures later { self.old.faults ≤ self.new.faults }
         ensures failed { result ≡ Err PutRefusal.Failed → Rose self.old.faults self.new.faults }
+        ensures kept { ¬ (result ≡ Err PutRefusal.Failed) → self.new.faults ≡ self.old.faults }
         ensures refusal { IsOkUnless result PutRefusal.Failed }
         ensures faults { self.new.faults ≡ faults_after_put result self.old.faults }
     {

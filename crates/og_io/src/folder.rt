@@ -1,0 +1,129 @@
+//! The files of the current folder. Nothing is told of what they hold.
+ghost use Rattle.std.specs.Prelude.{◌≡◌, ◌≤◌, [], None, Some, Err, OnOk, false};
+ghost use Rattle.og_io.specs.BelowFolder.{is_below_folder};
+ghost use Rattle.og_io.specs.Folders.{HasFile, IsAnswer, FailsAsCounted, AbsentAsCounted};
+
+use crate::files::{Files, FilesRefusal, Found};
+use crate::folder_names::is_below_folder;
+use crate::replaced::{open_file, read_whole, replace_file};
+use og_value::Text;
+use std::alloc::Global;
+use std::fs;
+use std::io::ErrorKind;
+use std::marker::Model;
+
+/// The files of the current folder and of those below it. A name is one or more parts with `/` between
+/// them, none of them empty, `.` or `..`, without a zero byte; any other name is a fault. Seen as the bytes
+/// handed out, and the counts of faults and of absences.
+#[derive(Drop)]
+pub struct FolderFiles<'a, H> {
+    rt: &'a H,
+    buffer: Vec<u8>,
+    faults: u64,
+    absences: u64,
+}
+
+impl<'a, H> Model for FolderFiles<'a, H> {
+    ghost use Rattle.og_io.specs.Devices.{FolderDevice};
+
+    ghost Value = { FolderDevice };
+
+    ghost view = { λ f. record {
+      buffer = f.buffer.items;
+      faults = f.faults;
+      absences = f.absences;
+    } };
+}
+
+impl<'a, H: fs::Files> FolderFiles<'a, H> {
+    /// The files of the current folder. Nothing is handed out yet.
+    pub fn new(rt: &'a H, alloc: Global) -> FolderFiles<'a, H>
+        ensures buffer { result.buffer ≡ [] }
+        ensures faults { result.faults ≡ 0 }
+        ensures absences { result.absences ≡ 0 }
+    {
+        FolderFiles {
+            rt,
+            buffer: Vec::new(alloc),
+            faults: 0,
+            absences: 0,
+        }
+    }
+}
+
+impl<'a, H: fs::Files> Files for FolderFiles<'a, H> {
+    ghost use Rattle.og_io.specs.declared.files.FilesRefusal.{FilesRefusal};
+
+    ghost folder = { λ f. None };
+
+    ghost buffer = { λ f. f.buffer };
+
+    ghost faults = { λ f. f.faults };
+
+    ghost absences = { λ f. f.absences };
+
+    // A file of more than `MAX_FILE` bytes is a fault, and so is what is no file.
+    fn read(&mut self, name: &Text) -> Result<Found, FilesRefusal>
+        ensures answer { IsAnswer result None name.now self.new.buffer }
+        ensures failed { FailsAsCounted result self.old.faults self.new.faults }
+        ensures absent { AbsentAsCounted result self.old.absences self.new.absences }
+        ensures outside { is_below_folder name.now ≡ false → result ≡ Err FilesRefusal.Failed }
+    {
+        self.buffer.clear();
+        if !is_below_folder(name.bytes()) {
+            self.faults = self.faults.saturating_add(1);
+            return Err(FilesRefusal::Failed);
+        }
+        let file = match open_file(self.rt, name.as_str()) {
+            Ok(file) => file,
+            Err(error) => {
+                if error.kind() == ErrorKind::NotFound {
+                    self.absences = self.absences.saturating_add(1);
+                    return Ok(Found::Absent);
+                }
+                self.faults = self.faults.saturating_add(1);
+                return Err(FilesRefusal::Failed);
+            }
+        };
+        match read_whole(file, *self.buffer.allocator()) {
+            Ok(bytes) => {
+                self.buffer = bytes;
+                Ok(Found::Present)
+            }
+            Err(FilesRefusal::Failed) => {
+                self.faults = self.faults.saturating_add(1);
+                Err(FilesRefusal::Failed)
+            }
+            Err(FilesRefusal::NoMemory) => Err(FilesRefusal::NoMemory),
+        }
+    }
+
+    fn bytes(&self) -> &[u8]
+        ensures { result.now ≡ self.now.buffer }
+    {
+        self.buffer.as_slice()
+    }
+
+    // The bytes go to a new file beside it, which then takes its name, so that a run that is killed leaves
+    // the old file or the new one.
+    fn write(&mut self, name: &Text, bytes: &[u8]) -> Result<(), FilesRefusal>
+        ensures written { OnOk result (HasFile None name.now (Some bytes.now)) }
+        ensures buffer { self.new.buffer ≡ self.old.buffer }
+        ensures failed { FailsAsCounted result self.old.faults self.new.faults }
+        ensures later { self.old.absences ≤ self.new.absences }
+        ensures absences { self.new.absences ≡ self.old.absences }
+        ensures outside { is_below_folder name.now ≡ false → result ≡ Err FilesRefusal.Failed }
+    {
+        if !is_below_folder(name.bytes()) {
+            self.faults = self.faults.saturating_add(1);
+            return Err(FilesRefusal::Failed);
+        }
+        match replace_file(self.rt, *self.buffer.allocator(), name.as_str(), bytes) {
+            Err(FilesRefusal::Failed) => {
+                self.faults = self.faults.saturating_add(1);
+                Err(FilesRefusal::Failed)
+            }
+            done => done,
+        }
+    }
+}
