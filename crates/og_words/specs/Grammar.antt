@@ -36,12 +36,12 @@ pub data IsOption (words : List (List ℕ)) (workers : ℕ) : Type 0 where
   given : (v : List ℕ) → IsGiven words v → IsWorkers v workers → IsOption words workers
   absent : words ≡ [] → workers ≡ 1 → IsOption words workers
 
--- FILE: a word in UTF-8
+-- FILE: a word in UTF-8 that is not empty and has no `-` at its front
 pub record IsFile (word : List ℕ) : Type 0 where
   pub value : is_value word ≡ true
   pub utf8 : IsUtf8 word
 
--- DAY: the day text of a reference day, and its number
+-- DAY: the day text of a reference day, without a `-` at its front, and the number of the day
 pub record IsDay (word : List ℕ) (day : ℤ) : Type 0 where
   pub value : is_value word ≡ true
   pub text : IsRefDayText word day
