@@ -1,0 +1,5 @@
+mod Asked
+mod Borrowed
+mod OneCommand
+mod Readings
+mod Taken

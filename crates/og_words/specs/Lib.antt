@@ -1,0 +1,3 @@
+-- What the words of a command line mean.
+pub mod Grammar
+pub mod Shape

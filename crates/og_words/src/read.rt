@@ -1,0 +1,76 @@
+//! Reading the words.
+ghost use Rattle.std.specs.Prelude.{◌≡◌, ◌≢◌, Err, IfOk, map};
+ghost use Rattle.std.specs.List.{list_all};
+ghost use Rattle.clap.specs.Words.{kind_of};
+ghost use Rattle.og_words.specs.Grammar.{IsCommand};
+ghost use Rattle.og_words.specs.Shape.{is_asked};
+ghost use Rattle.og_words.specs.declared.command.Command as commands;
+ghost use Rattle.og_words.specs.declared.command.WordsRefusal.{WordsRefusal};
+
+use crate::command::{Command, WordsRefusal};
+use crate::grammar::{command_of, is_value};
+use crate::shape::ongq_command;
+use clap::Error;
+use clap::error::ErrorKind;
+use og_base::Words;
+use std::alloc::{AllocError, Global};
+
+/// The command that the words are by the grammar of words: `run`, `at` or `load` with what belongs
+/// to it (specs/Grammar.antt). `NoCommand` exactly where they are none.
+pub fn read_words(alloc: Global, words: &Words) -> Result<Command, WordsRefusal>
+    ensures command { IfOk result (IsCommand words.now) }
+    ensures no_command { result ≡ Err WordsRefusal.NoCommand → (c : commands.Command) → ¬ IsCommand words.now c }
+{
+    let list = listed(alloc, words)?;
+    if !are_asked(list.as_slice()) {
+        return Err(WordsRefusal::NoCommand);
+    }
+    ask_clap(alloc, list.as_slice())?;
+    command_of(alloc, list.as_slice())
+}
+
+// The words as texts.
+fn listed<'a>(alloc: Global, words: &'a Words) -> Result<Vec<&'a str>, AllocError>
+    ensures { IfOk result (λ list. map (λ w. w.now) list.items ≡ words.now) }
+{
+    let mut list = Vec::new(alloc);
+    'words: for i in 0..words.len() {
+        list.push(words.word(i))?;
+    }
+    Ok(list)
+}
+
+// Whether each word is one that clap is asked about.
+fn are_asked(words: &[&str]) -> bool
+    ensures { result ≡ list_all (λ w. is_asked w.now) words.now }
+{
+    words.iter().all(|word| is_asked(word))
+}
+
+// Whether clap is asked about the word: a value, or the option with or without its value in it.
+fn is_asked(word: &str) -> bool
+    ensures { result ≡ is_asked word.now }
+{
+    is_value(word) || word == "--workers" || word.as_bytes().starts_with(b"--workers=".as_slice())
+}
+
+// Has clap read the words.
+fn ask_clap<'a>(alloc: Global, words: &'a [&'a str]) -> Result<(), WordsRefusal>
+    ensures { result ≡ Err WordsRefusal.NoCommand → (c : commands.Command) → ¬ IsCommand (map (λ w. w.now) words.now) c }
+{
+    let command = ongq_command(alloc)?;
+    match command.try_get_matches_from(words) {
+        Ok(_matches) => Ok(()),
+        Err(error) => Err(refusal_of(&error)),
+    }
+}
+
+// What an error of clap says of the words.
+fn refusal_of(error: &Error) -> WordsRefusal
+    ensures { result ≡ WordsRefusal.NoCommand → kind_of error.now ≢ ErrorKind.OutOfMemory }
+{
+    match error.kind() {
+        ErrorKind::OutOfMemory => WordsRefusal::NoMemory,
+        _ => WordsRefusal::NoCommand,
+    }
+}
