@@ -29,6 +29,11 @@ pub bind_ok : {A B : Type 0} (p : Checked A) (f : A → Checked B) (y : B) → (
 bind_ok (Ok x) f y e = (x, refl, e)
 bind_ok (Err fault) f y e = absurd (not_ok fault y e)
 
+-- what follows where both steps give a value
+pub where_ok : {A B : Type 0} {P : Type 0} (p : Checked A) (f : A → Checked B) (y : B) → ((x : A) → p ≡ Ok x → f x ≡ Ok y → P) → (p >>= f) ≡ Ok y → P
+where_ok (Ok x) f y h e = h x refl e
+where_ok (Err fault) f y h e = absurd (not_ok fault y e)
+
 -- where there is no fault, the test holds
 pub unless_ok : (good : Bool) (fault : CheckRefusal) (u : Unit {0}) → unless good fault ≡ Ok u → good ≡ true
 unless_ok true fault u e = refl

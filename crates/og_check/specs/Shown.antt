@@ -20,3 +20,8 @@ from_in x = record { items = x.items; tables = x.tables; conds = x.conds }
 abbrev pub from_given : Result Joined CheckRefusal → Result From CheckRefusal
 from_given (Ok x) = Ok (from_in x)
 from_given (Err reason) = Err reason
+
+-- the same where a function added to it
+abbrev pub from_written : Joined → Result (Unit {0}) CheckRefusal → Result From CheckRefusal
+from_written x (Ok u) = Ok (from_in x)
+from_written x (Err reason) = Err reason

@@ -136,8 +136,7 @@ fn set_of(
         });
     }
     let (expr, found) = expr_of(alloc, sight, &set.expr)?;
-    same_kind(found, wanted)?;
-    Ok(Assign { column, expr })
+    same_kind(found, wanted).and(Ok(Assign { column, expr }))
 }
 
 // Whether one of the assignments sets the column at the place.

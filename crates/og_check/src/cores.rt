@@ -6,7 +6,8 @@ ghost use Rattle.og_check.specs.Cores as spec;
 ghost use Rattle.og_check.specs.Fronts.{parted, with_fronts};
 ghost use Rattle.og_check.specs.Names.{schemas_in};
 ghost use Rattle.og_check.specs.Results.{Gives};
-ghost use Rattle.og_check.specs.Shown.{shown};
+ghost use Rattle.og_check.specs.Selects.{after_from, core_in, shown_of};
+ghost use Rattle.og_check.specs.Shown.{from_in, shown};
 ghost use Rattle.og_check.specs.Sight.{joined};
 ghost use Rattle.og_check.specs.Steps.{in_order, pure};
 
@@ -17,8 +18,8 @@ use crate::limits::MAX_TABLES;
 use crate::names::Names;
 use crate::refusal::CheckRefusal;
 use crate::sight::{Item, Sight};
-use crate::tables::{from_of, semis_of};
-use og_query::{Cond, Core, Expr};
+use crate::tables::{Joined, from_of, semis_of};
+use og_query::{Cond, Core, Expr, Semi};
 use og_syntax::{CoreText, ExprText, ItemText, ItemsText};
 use og_value::{Catalog, Column, MAX_COLUMNS, Name, NameRefusal, Schema};
 use sqlite_items::Items;
@@ -31,6 +32,14 @@ pub struct Shown {
     columns: Vec<Column>,
 }
 
+/// What follows FROM in a SELECT: EXISTS and NOT EXISTS, the items, and their schema.
+#[derive(Drop)]
+pub struct Selected {
+    semis: Items<Semi>,
+    exprs: Items<Expr>,
+    schema: Schema,
+}
+
 /// A SELECT over the names that may be asked.
 pub fn core_of<C: Catalog>(
     alloc: Global,
@@ -41,21 +50,65 @@ pub fn core_of<C: Catalog>(
     ensures { Gives result (spec.core_of (schemas_in names (C.known known.now)) core.now) }
 {
     within(MAX_TABLES, core.tables.len())?;
-    let from = from_of(alloc, known, names, core.tables.as_slice())?;
-    let items = from.items;
-    let mut conds = from.conds;
-    let more = conds_of(alloc, &Sight::of(items.as_slice()), &core.cond)?;
-    let semis = semis_of(alloc, known, names, items.as_slice(), core.semis.as_slice())?;
-    let shown = items_of(alloc, items.as_slice(), &core.items)?;
-    let schema = schema_of(shown.columns)?;
-    conds.append(more)?;
-    Ok(Core {
-        tables: from.tables,
-        cond: Cond::And(conds),
-        semis,
-        items: shown.exprs,
-        schema,
-    })
+    let mut from = from_of(alloc, known, names, core.tables.as_slice())?;
+    match selected_of(alloc, known, names, core, &mut from) {
+        Ok(selected) => Ok(Core {
+            tables: from.tables,
+            cond: Cond::And(from.conds),
+            semis: selected.semis,
+            items: selected.exprs,
+            schema: selected.schema,
+        }),
+        Err(refusal) => {
+            drop(from);
+            Err(refusal)
+        }
+    }
+}
+
+// What follows FROM, whose conditions get that of WHERE.
+fn selected_of<C: Catalog>(
+    alloc: Global,
+    known: &C,
+    names: Names,
+    core: &CoreText,
+    from: &mut Joined,
+) -> Result<Selected, CheckRefusal>
+    ensures { Gives (core_in from.new result) (after_from (schemas_in names (C.known known.now)) core.now (from_in from.old)) }
+{
+    let conds = conds_of(alloc, &Sight::of(from.items.as_slice()), &core.cond)?;
+    from.conds.append(conds)?;
+    let items = from.items.as_slice();
+    let semis = semis_of(alloc, known, names, items, core.semis.as_slice())?;
+    match shown_of(alloc, items, &core.items) {
+        Ok((exprs, schema)) => Ok(Selected {
+            semis,
+            exprs,
+            schema,
+        }),
+        Err(refusal) => {
+            drop(semis);
+            Err(refusal)
+        }
+    }
+}
+
+// The items of SELECT, and their schema.
+fn shown_of(
+    alloc: Global,
+    items: &[Item],
+    list: &ItemsText,
+) -> Result<(Items<Expr>, Schema), CheckRefusal>
+    ensures { Gives result (shown_of items.now list.now) }
+{
+    let Shown { exprs, columns } = items_of(alloc, items, list)?;
+    match schema_of(columns) {
+        Ok(schema) => Ok((exprs, schema)),
+        Err(refusal) => {
+            drop(exprs);
+            Err(refusal)
+        }
+    }
 }
 
 /// The schema of the columns. `CountsDiffer` exactly where there is none, `TooMany` where there are
@@ -136,9 +189,14 @@ fn item_of(
 ) -> Result<(Expr, Column), CheckRefusal>
     ensures { Gives result (spec.item_of sight.now number item.now) }
 {
-    let (expr, kind) = expr_of(alloc, sight, &item.expr)?;
     let name = item_name(alloc, number, item)?;
-    Ok((expr, Column { name, kind }))
+    match expr_of(alloc, sight, &item.expr) {
+        Ok((expr, kind)) => Ok((expr, Column { name, kind })),
+        Err(refusal) => {
+            drop(name);
+            Err(refusal)
+        }
+    }
 }
 
 // The name of the item's column.

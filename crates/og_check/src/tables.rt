@@ -5,7 +5,8 @@ ghost use Rattle.std.specs.Str.{bytes_eq};
 ghost use Rattle.og_check.specs.Cores as spec;
 ghost use Rattle.og_check.specs.Names.{schemas_in};
 ghost use Rattle.og_check.specs.Results.{Gives};
-ghost use Rattle.og_check.specs.Shown.{from_given, from_in};
+ghost use Rattle.og_check.specs.Selects.{new_item};
+ghost use Rattle.og_check.specs.Shown.{from_given, from_in, from_written};
 ghost use Rattle.og_check.specs.Steps.{in_order};
 
 use crate::conditions::{conds_of, where_of};
@@ -42,30 +43,44 @@ pub fn from_of<'a, C: Catalog>(
         conds: Items::new(alloc),
     };
     'each: for table in tables {
-        from = with_table(alloc, known, names, from, table)?;
+        add_table(alloc, known, names, table, &mut from)?;
     }
     Ok(from)
 }
 
-// With one more table.
-fn with_table<'a, C: Catalog>(
+// Adds one more table.
+fn add_table<'a, C: Catalog>(
     alloc: Global,
     known: &'a C,
     names: Names,
-    from: Joined<'a>,
     table: &'a FromText,
-) -> Result<Joined<'a>, CheckRefusal>
-    ensures { Gives (from_given result) (spec.with_table (schemas_in names (C.known known.now)) (from_in from.entry) table.now) }
+    from: &mut Joined<'a>,
+) -> Result<(), CheckRefusal>
+    ensures { Gives (from_written from.new result) (spec.with_table (schemas_in names (C.known known.now)) (from_in from.old) table.now) }
 {
-    let mut from = from;
-    let columns = known_columns(known, names, &table.name)?;
-    let alias = alias_of(&table.name, &table.alias);
-    unused(alias, from.items.as_slice())?;
-    from.items.push(Item::of(alias, columns))?;
+    let item = new_item(known, names, &table.name, &table.alias, from.items.as_slice())?;
+    let columns = item.columns();
+    from.items.push(item)?;
     let conds = conds_of(alloc, &Sight::of(from.items.as_slice()), &table.on)?;
     from.conds.append(conds)?;
     from.tables.push(table_of(&table.name, columns)?)?;
-    Ok(from)
+    Ok(())
+}
+
+// The item of a name, whose alias none of the items has.
+fn new_item<'a, C: Catalog>(
+    known: &'a C,
+    names: Names,
+    name: &'a Name,
+    alias: &'a Option<Name>,
+    items: &[Item],
+) -> Result<Item<'a>, CheckRefusal>
+    ensures { Gives result (new_item (schemas_in names (C.known known.now)) name.now alias.now items.now) }
+{
+    let columns = known_columns(known, names, name)?;
+    let alias = alias_of(name, alias);
+    unused(alias, items)?;
+    Ok(Item::of(alias, columns))
 }
 
 // The table of a name and its columns.
@@ -123,15 +138,18 @@ fn semi_of<C: Catalog>(
 ) -> Result<Semi, CheckRefusal>
     ensures { Gives result (spec.semi_of (schemas_in names (C.known known.now)) items.now semi.now) }
 {
-    let columns = known_columns(known, names, &semi.name)?;
-    let alias = alias_of(&semi.name, &semi.alias);
-    unused(alias, items)?;
-    let table = table_of(&semi.name, columns)?;
-    let sub = [Item::of(alias, columns)];
-    let cond = where_of(alloc, &Sight::with_sub(items, &sub), &semi.cond)?;
-    Ok(Semi {
-        positive: semi.positive,
-        table,
-        cond,
-    })
+    let item = new_item(known, names, &semi.name, &semi.alias, items)?;
+    let table = table_of(&semi.name, item.columns())?;
+    let sub = [item];
+    match where_of(alloc, &Sight::with_sub(items, &sub), &semi.cond) {
+        Ok(cond) => Ok(Semi {
+            positive: semi.positive,
+            table,
+            cond,
+        }),
+        Err(refusal) => {
+            drop(table);
+            Err(refusal)
+        }
+    }
 }
