@@ -1,5 +1,5 @@
 -- The parts of the checks of a SELECT. Beside private functions alone.
-use Rattle.std.specs.Prelude.{◌++◌, ℕ, List, Option, Result, Ok, Err, map}
+use Rattle.std.specs.Prelude.{◌++◌, List, Result, Ok, Err, map}
 use Rattle.og_value.specs.declared.schema.Column.{Column}
 use Rattle.og_syntax.specs.declared.tree.CoreText.{CoreText}
 use Rattle.og_syntax.specs.declared.tree.ItemsText.{ItemsText}
@@ -10,17 +10,10 @@ use Rattle.og_query.specs.declared.query.Core.{Core}
 use Rattle.og_check.specs.declared.cores.Selected.{Selected}
 use Rattle.og_check.specs.declared.tables.Joined.{Joined}
 use Rattle.og_check.specs.declared.refusal.CheckRefusal.{CheckRefusal}
-use Rattle.og_check.specs.Steps.{Checked, ◌>>=◌, ◌>>◌, pure, in_order}
+use Rattle.og_check.specs.Steps.{Checked, ◌>>=◌, pure, in_order}
 use Rattle.og_check.specs.Sight.{Item}
 use Rattle.og_check.specs.Expressions.{conds_of}
-use Rattle.og_check.specs.Cores.{known_columns, alias_of, unused, From, sees, semi_of, items_of, columns_of, exprs_of, schema_of}
-
--- the item of a name, with an alias that none of the items has
-abbrev pub new_item : Schemas → List ℕ → Option (List ℕ) → List Item → Checked Item
-new_item schemas name alias items = do
-  columns ← known_columns name (schemas name)
-  unused (alias_of name alias) items
-  pure (alias_of name alias, columns)
+use Rattle.og_check.specs.Cores.{From, sees, semi_of, items_of, columns_of, exprs_of, schema_of}
 
 -- the items of SELECT, and their columns as a schema
 abbrev pub shown_of : List Item → ItemsText → Checked (List Expr × List Column)

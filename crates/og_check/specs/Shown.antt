@@ -8,8 +8,12 @@ use Rattle.og_check.specs.declared.refusal.CheckRefusal.{CheckRefusal}
 use Rattle.og_check.specs.Cores.{From}
 
 -- the items, and their columns
+abbrev pub shown_in : Shown → List Expr × List Column
+shown_in x = (x.exprs, x.columns.items)
+
+-- the same where a function gave them
 abbrev pub shown : Result Shown CheckRefusal → Result (List Expr × List Column) CheckRefusal
-shown (Ok x) = Ok (x.exprs, x.columns.items)
+shown (Ok x) = Ok (shown_in x)
 shown (Err reason) = Err reason
 
 -- what FROM gives
@@ -20,8 +24,3 @@ from_in x = record { items = x.items; tables = x.tables; conds = x.conds }
 abbrev pub from_given : Result Joined CheckRefusal → Result From CheckRefusal
 from_given (Ok x) = Ok (from_in x)
 from_given (Err reason) = Err reason
-
--- the same where a function added to it
-abbrev pub from_written : Joined → Result (Unit {0}) CheckRefusal → Result From CheckRefusal
-from_written x (Ok u) = Ok (from_in x)
-from_written x (Err reason) = Err reason

@@ -3,8 +3,9 @@ ghost use Rattle.std.specs.Prelude.{◌≡◌, ◌∷◌, [], map};
 ghost use Rattle.og_value.specs.declared.kind.Kind.TheVariants as kinds;
 ghost use Rattle.og_check.specs.Expressions as spec;
 ghost use Rattle.og_check.specs.Expressions.{cond_of};
+ghost use Rattle.og_check.specs.Fronts.{with_front};
 ghost use Rattle.og_check.specs.Operands.{operands_of};
-ghost use Rattle.og_check.specs.Results.{Gives};
+ghost use Rattle.og_check.specs.Results.{Gives, wrote};
 ghost use Rattle.og_check.specs.Steps.{in_order};
 
 use crate::expressions::expr_of;
@@ -137,19 +138,19 @@ fn contains_of(
         .and(Ok(Cond::Contains(period, day)))
 }
 
-/// The condition as a list of one, and no list where there is none.
-pub fn conds_of(
+/// Adds the condition, where there is one.
+pub fn add_cond(
     alloc: Global,
     sight: &Sight,
     cond: &Option<CondText>,
-) -> Result<Items<Cond>, CheckRefusal>
-    ensures { Gives result (spec.conds_of sight.now cond.now) }
+    conds: &mut Items<Cond>,
+) -> Result<(), CheckRefusal>
+    ensures { Gives (wrote conds.new result) (with_front conds.old (spec.conds_of sight.now cond.now)) }
 {
-    let mut conds = Items::new(alloc);
     if let Some(cond) = cond {
         conds.push(cond_of(alloc, sight, cond)?)?;
     }
-    Ok(conds)
+    Ok(())
 }
 
 /// The condition, and one that is true where there is none.

@@ -3,15 +3,16 @@ ghost use Rattle.std.specs.Prelude.{◌≡◌, ◌++◌, ◌∷◌, [], codes, l
 ghost use Rattle.std.specs.Fmt.{decimal};
 ghost use Rattle.og_syntax.specs.declared.tree.ExprText.{out-ExprText};
 ghost use Rattle.og_check.specs.Cores as spec;
-ghost use Rattle.og_check.specs.Fronts.{parted, with_fronts};
+ghost use Rattle.og_check.specs.Cores.{star_from};
+ghost use Rattle.og_check.specs.Fronts.{parted, with_fronts, with_pair};
 ghost use Rattle.og_check.specs.Names.{schemas_in};
-ghost use Rattle.og_check.specs.Results.{Gives};
+ghost use Rattle.og_check.specs.Results.{Gives, wrote};
 ghost use Rattle.og_check.specs.Selects.{after_from, core_in, shown_of};
-ghost use Rattle.og_check.specs.Shown.{from_in, shown};
+ghost use Rattle.og_check.specs.Shown.{from_in, shown, shown_in};
 ghost use Rattle.og_check.specs.Sight.{joined};
 ghost use Rattle.og_check.specs.Steps.{in_order, pure};
 
-use crate::conditions::conds_of;
+use crate::conditions::add_cond;
 use crate::expressions::expr_of;
 use crate::kinds::within;
 use crate::limits::MAX_TABLES;
@@ -76,8 +77,7 @@ fn selected_of<C: Catalog>(
 ) -> Result<Selected, CheckRefusal>
     ensures { Gives (core_in from.new result) (after_from (schemas_in names (C.known known.now)) core.now (from_in from.old)) }
 {
-    let conds = conds_of(alloc, &Sight::of(from.items.as_slice()), &core.cond)?;
-    from.conds.append(conds)?;
+    add_cond(alloc, &Sight::of(from.items.as_slice()), &core.cond, &mut from.conds)?;
     let items = from.items.as_slice();
     let semis = semis_of(alloc, known, names, items, core.semis.as_slice())?;
     match shown_of(alloc, items, &core.items) {
@@ -132,71 +132,67 @@ fn items_of(alloc: Global, items: &[Item], list: &ItemsText) -> Result<Shown, Ch
 
 // Each column of the items.
 fn star_of(alloc: Global, items: &[Item]) -> Result<Shown, CheckRefusal>
-    ensures { Gives (shown result) (parted (pure (spec.star_from 0 (joined items.now)))) }
+    ensures { Gives (shown result) (parted (pure (star_from 0 (joined items.now)))) }
 {
     let mut all = Shown {
         exprs: Items::new(alloc),
         columns: Vec::new(alloc),
     };
     'items: for item in items {
-        all = with_columns(all, item.columns())?;
+        add_columns(item.columns(), &mut all)?;
     }
     Ok(all)
 }
 
-// With each of the columns, of which the first has the place after those that are shown.
-fn with_columns(before: Shown, columns: &Schema) -> Result<Shown, CheckRefusal>
-    ensures { Gives (shown result) (with_fronts before.exprs before.columns.items (pure (spec.star_from (length before.exprs) columns.now))) }
+// Adds each of the columns, of which the first has the place after those that are shown.
+fn add_columns(columns: &Schema, all: &mut Shown) -> Result<(), CheckRefusal>
+    ensures { Gives (wrote (shown_in all.new) result) (with_fronts all.old.exprs all.old.columns.items (pure (star_from (length all.old.exprs) columns.now))) }
 {
-    let mut all = before;
     'columns: for i in 0..columns.len() {
-        all = with_column(all, columns.column(i))?;
+        add_column(columns.column(i), all)?;
     }
-    Ok(all)
+    Ok(())
 }
 
-// With the column, which has the place after those that are shown.
-fn with_column(before: Shown, column: &Column) -> Result<Shown, CheckRefusal>
-    ensures { Gives (shown result) (with_fronts before.exprs before.columns.items (pure (spec.star_from (length before.exprs) (column.now ∷ [])))) }
+// Adds the column, which has the place after those that are shown.
+fn add_column(column: &Column, all: &mut Shown) -> Result<(), CheckRefusal>
+    ensures { Gives (wrote (shown_in all.new) result) (with_fronts all.old.exprs all.old.columns.items (pure (star_from (length all.old.exprs) (column.now ∷ [])))) }
 {
-    let mut all = before;
     let place = all.exprs.len();
     all.exprs.push(Expr::Column(place))?;
     all.columns.push(column.copy()?)?;
-    Ok(all)
+    Ok(())
 }
 
 // The items of a list.
 fn list_of(alloc: Global, sight: &Sight, list: &[ItemText]) -> Result<Shown, CheckRefusal>
     ensures { Gives (shown result) (parted (in_order (spec.items_from sight.now 1 list.now))) }
 {
-    let mut exprs = Items::new(alloc);
-    let mut columns = Vec::new(alloc);
+    let mut all = Shown {
+        exprs: Items::new(alloc),
+        columns: Vec::new(alloc),
+    };
     'each: for i in 0..list.len() {
-        let (expr, column) = item_of(alloc, sight, i + 1, &list[i])?;
-        exprs.push(expr)?;
-        columns.push(column)?;
+        add_item(alloc, sight, i + 1, &list[i], &mut all)?;
     }
-    Ok(Shown { exprs, columns })
+    Ok(all)
 }
 
-// The item with that number, and its column.
-fn item_of(
+// Adds the item with that number, and its column.
+fn add_item(
     alloc: Global,
     sight: &Sight,
     number: usize,
     item: &ItemText,
-) -> Result<(Expr, Column), CheckRefusal>
-    ensures { Gives result (spec.item_of sight.now number item.now) }
+    all: &mut Shown,
+) -> Result<(), CheckRefusal>
+    ensures { Gives (wrote (shown_in all.new) result) (with_pair all.old.exprs all.old.columns.items (spec.item_of sight.now number item.now)) }
 {
+    let (expr, kind) = expr_of(alloc, sight, &item.expr)?;
+    all.exprs.push(expr)?;
     let name = item_name(alloc, number, item)?;
-    match expr_of(alloc, sight, &item.expr) {
-        Ok((expr, kind)) => Ok((expr, Column { name, kind })),
-        Err(refusal) => {
-            drop(name);
-            Err(refusal)
-        }
-    }
+    all.columns.push(Column { name, kind })?;
+    Ok(())
 }
 
 // The name of the item's column.

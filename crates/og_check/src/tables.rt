@@ -4,12 +4,11 @@ ghost use Rattle.std.specs.List.{list_any};
 ghost use Rattle.std.specs.Str.{bytes_eq};
 ghost use Rattle.og_check.specs.Cores as spec;
 ghost use Rattle.og_check.specs.Names.{schemas_in};
-ghost use Rattle.og_check.specs.Results.{Gives};
-ghost use Rattle.og_check.specs.Selects.{new_item};
-ghost use Rattle.og_check.specs.Shown.{from_given, from_in, from_written};
+ghost use Rattle.og_check.specs.Results.{Gives, wrote};
+ghost use Rattle.og_check.specs.Shown.{from_given, from_in};
 ghost use Rattle.og_check.specs.Steps.{in_order};
 
-use crate::conditions::{conds_of, where_of};
+use crate::conditions::{add_cond, where_of};
 use crate::names::{Names, alias_of, known_columns};
 use crate::refusal::CheckRefusal;
 use crate::sight::{Item, Sight};
@@ -56,31 +55,15 @@ fn add_table<'a, C: Catalog>(
     table: &'a FromText,
     from: &mut Joined<'a>,
 ) -> Result<(), CheckRefusal>
-    ensures { Gives (from_written from.new result) (spec.with_table (schemas_in names (C.known known.now)) (from_in from.old) table.now) }
+    ensures { Gives (wrote (from_in from.new) result) (spec.with_table (schemas_in names (C.known known.now)) (from_in from.old) table.now) }
 {
-    let item = new_item(known, names, &table.name, &table.alias, from.items.as_slice())?;
-    let columns = item.columns();
-    from.items.push(item)?;
-    let conds = conds_of(alloc, &Sight::of(from.items.as_slice()), &table.on)?;
-    from.conds.append(conds)?;
+    let columns = known_columns(known, names, &table.name)?;
+    let alias = alias_of(&table.name, &table.alias);
+    unused(alias, from.items.as_slice())?;
+    from.items.push(Item::of(alias, columns))?;
+    add_cond(alloc, &Sight::of(from.items.as_slice()), &table.on, &mut from.conds)?;
     from.tables.push(table_of(&table.name, columns)?)?;
     Ok(())
-}
-
-// The item of a name, whose alias none of the items has.
-fn new_item<'a, C: Catalog>(
-    known: &'a C,
-    names: Names,
-    name: &'a Name,
-    alias: &'a Option<Name>,
-    items: &[Item],
-) -> Result<Item<'a>, CheckRefusal>
-    ensures { Gives result (new_item (schemas_in names (C.known known.now)) name.now alias.now items.now) }
-{
-    let columns = known_columns(known, names, name)?;
-    let alias = alias_of(name, alias);
-    unused(alias, items)?;
-    Ok(Item::of(alias, columns))
 }
 
 // The table of a name and its columns.
@@ -138,9 +121,11 @@ fn semi_of<C: Catalog>(
 ) -> Result<Semi, CheckRefusal>
     ensures { Gives result (spec.semi_of (schemas_in names (C.known known.now)) items.now semi.now) }
 {
-    let item = new_item(known, names, &semi.name, &semi.alias, items)?;
-    let table = table_of(&semi.name, item.columns())?;
-    let sub = [item];
+    let columns = known_columns(known, names, &semi.name)?;
+    let alias = alias_of(&semi.name, &semi.alias);
+    unused(alias, items)?;
+    let table = table_of(&semi.name, columns)?;
+    let sub = [Item::of(alias, columns)];
     match where_of(alloc, &Sight::with_sub(items, &sub), &semi.cond) {
         Ok(cond) => Ok(Semi {
             positive: semi.positive,
