@@ -1,7 +1,6 @@
 //! The checks of a SELECT.
 ghost use Rattle.std.specs.Prelude.{◌≡◌, ◌++◌, ◌∷◌, [], codes, length};
 ghost use Rattle.std.specs.Fmt.{decimal};
-ghost use Rattle.og_syntax.specs.declared.tree.ExprText.{out-ExprText};
 ghost use Rattle.og_check.specs.Cores as spec;
 ghost use Rattle.og_check.specs.Cores.{star_from};
 ghost use Rattle.og_check.specs.Fronts.{parted, with_fronts, with_pair};
@@ -93,7 +92,8 @@ fn selected_of<C: Catalog>(
     }
 }
 
-// The items of SELECT, and their schema.
+// The items of SELECT, and their schema. `CountsDiffer` exactly where there is none, `TooMany` where
+// there are more than `MAX_COLUMNS`.
 fn shown_of(
     alloc: Global,
     items: &[Item],
@@ -101,23 +101,14 @@ fn shown_of(
 ) -> Result<(Items<Expr>, Schema), CheckRefusal>
     ensures { Gives result (shown_of items.now list.now) }
 {
-    let Shown { exprs, columns } = items_of(alloc, items, list)?;
-    match schema_of(columns) {
-        Ok(schema) => Ok((exprs, schema)),
+    let shown = items_of(alloc, items, list)?;
+    match within(MAX_COLUMNS, shown.columns.len()) {
+        Ok(()) => Ok((shown.exprs, Schema::of(shown.columns))),
         Err(refusal) => {
-            drop(exprs);
+            drop(shown);
             Err(refusal)
         }
     }
-}
-
-/// The schema of the columns. `CountsDiffer` exactly where there is none, `TooMany` where there are
-/// more than `MAX_COLUMNS`.
-pub fn schema_of(columns: Vec<Column>) -> Result<Schema, CheckRefusal>
-    ensures { Gives result (spec.schema_of columns.items) }
-{
-    within(MAX_COLUMNS, columns.len())?;
-    Ok(Schema::of(columns))
 }
 
 // The items of SELECT, of which * gives all columns.
@@ -195,22 +186,12 @@ fn add_item(
     Ok(())
 }
 
-// The name of the item's column.
+// The name of the item's column: the one after AS, or that of a column, or c and the number.
 fn item_name(alloc: Global, number: usize, item: &ItemText) -> Result<Name, CheckRefusal>
     ensures { Gives result (pure (spec.item_name number item.now)) }
 {
-    match &item.name {
-        Some(name) => Ok(name.copy()?),
-        None => own_name(alloc, number, &item.expr),
-    }
-}
-
-// The name of a column, or c and the number for another expression.
-fn own_name(alloc: Global, number: usize, expr: &ExprText) -> Result<Name, CheckRefusal>
-    ensures { Gives result (pure (spec.own_name number (out-ExprText expr.now))) }
-{
-    match expr {
-        ExprText::Column { table: _, name } => Ok(name.copy()?),
+    match (&item.name, &item.expr) {
+        (Some(name), _) | (None, ExprText::Column { name, .. }) => Ok(name.copy()?),
         _ => numbered(alloc, number),
     }
 }
