@@ -76,7 +76,12 @@ fn selected_of<C: Catalog>(
 ) -> Result<Selected, CheckRefusal>
     ensures { Gives (core_in from.new result) (after_from (schemas_in names (C.known known.now)) core.now (from_in from.old)) }
 {
-    add_cond(alloc, &Sight::of(from.items.as_slice()), &core.cond, &mut from.conds)?;
+    add_cond(
+        alloc,
+        &Sight::of(from.items.as_slice()),
+        &core.cond,
+        &mut from.conds,
+    )?;
     let items = from.items.as_slice();
     let semis = semis_of(alloc, known, names, items, core.semis.as_slice())?;
     match shown_of(alloc, items, &core.items) {

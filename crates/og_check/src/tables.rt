@@ -61,7 +61,12 @@ fn add_table<'a, C: Catalog>(
     let alias = alias_of(&table.name, &table.alias);
     unused(alias, from.items.as_slice())?;
     from.items.push(Item::of(alias, columns))?;
-    add_cond(alloc, &Sight::of(from.items.as_slice()), &table.on, &mut from.conds)?;
+    add_cond(
+        alloc,
+        &Sight::of(from.items.as_slice()),
+        &table.on,
+        &mut from.conds,
+    )?;
     from.tables.push(table_of(&table.name, columns)?)?;
     Ok(())
 }
