@@ -54,7 +54,12 @@ fn new_column(name: &Name, before: &[Column]) -> Result<(), CheckRefusal>
 fn has_column(name: &Name, columns: &[Column]) -> bool
     ensures { result ≡ list_any (λ other. bytes_eq other.name name.now) columns.now }
 {
-    columns.iter().any(|other| other.name == *name)
+    'others: for other in columns {
+        if other.name == *name {
+            return true;
+        }
+    }
+    false
 }
 
 /// The first fault of the tuples, of which each has a value of the kind of each column.
@@ -141,5 +146,10 @@ fn set_of(
 fn is_set(place: usize, sets: &[Assign]) -> bool
     ensures { result ≡ list_any (λ other. other.column == place) sets.now }
 {
-    sets.iter().any(|other| other.column == place)
+    'others: for other in sets {
+        if other.column == place {
+            return true;
+        }
+    }
+    false
 }
