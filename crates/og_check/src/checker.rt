@@ -61,7 +61,10 @@ fn statement<C: Catalog>(alloc: Global, known: &C, stmt: &Stmt) -> Result<Typed,
             name: known_name(known, Names::All, name)?,
         }),
         Stmt::Tables => Ok(Typed::Tables),
-        Stmt::Keep { name, query } => keep(alloc, known, name, query),
+        Stmt::Keep { name, query } => {
+            let (name, query) = named_query(alloc, known, Names::All, name, query)?;
+            Ok(Typed::Keep { name, query })
+        }
         Stmt::PrintName { name, day } => Ok(Typed::PrintName {
             name: known_name(known, Names::All, name)?,
             day: *day,
@@ -73,14 +76,15 @@ fn statement<C: Catalog>(alloc: Global, known: &C, stmt: &Stmt) -> Result<Typed,
         Stmt::Save { name, file } => save(known, name, file),
         Stmt::OpenFile { name, file } => open_file(known, name, file),
         Stmt::ImportFile { name, file } => import_file(known, name, file),
-        Stmt::Explain { query } => Ok(Typed::Explain {
-            query: query_of(alloc, known, Names::All, query)?,
-        }),
+        Stmt::Explain { query } => explain(alloc, known, query),
         Stmt::Valid { name, day } => Ok(Typed::Valid {
             name: known_name(known, Names::All, name)?,
             day: *day,
         }),
-        Stmt::Live { name, query } => live(alloc, known, name, query),
+        Stmt::Live { name, query } => {
+            let (name, query) = named_query(alloc, known, Names::Tables, name, query)?;
+            Ok(Typed::Live { name, query })
+        }
     }
 }
 
@@ -233,19 +237,6 @@ fn named_query<C: Catalog>(
     }
 }
 
-// KEEP: a new name, and a query.
-fn keep<C: Catalog>(
-    alloc: Global,
-    known: &C,
-    name: &Name,
-    query: &QueryText,
-) -> Result<Typed, CheckRefusal>
-    ensures { Gives result (spec.keep (C.known known.now) name.now query.now) }
-{
-    let (name, query) = named_query(alloc, known, Names::All, name, query)?;
-    Ok(Typed::Keep { name, query })
-}
-
 // SAVE: a name.
 fn save<C: Catalog>(known: &C, name: &Name, file: &Text) -> Result<Typed, CheckRefusal>
     ensures { Gives result (spec.save (C.known known.now) name.now file.now) }
@@ -288,15 +279,10 @@ fn import_file<C: Catalog>(known: &C, name: &Name, file: &Text) -> Result<Typed,
     }
 }
 
-// LIVE: a new name, and a query over tables.
-fn live<C: Catalog>(
-    alloc: Global,
-    known: &C,
-    name: &Name,
-    query: &QueryText,
-) -> Result<Typed, CheckRefusal>
-    ensures { Gives result (spec.live (C.known known.now) name.now query.now) }
+// EXPLAIN: a query.
+fn explain<C: Catalog>(alloc: Global, known: &C, query: &QueryText) -> Result<Typed, CheckRefusal>
+    ensures { Gives result (spec.explain (C.known known.now) query.now) }
 {
-    let (name, query) = named_query(alloc, known, Names::Tables, name, query)?;
-    Ok(Typed::Live { name, query })
+    let query = query_of(alloc, known, Names::All, query)?;
+    Ok(Typed::Explain { query })
 }
