@@ -41,7 +41,7 @@ pub fn check_owned<C: Catalog>(alloc: Global, stmt: Stmt, known: &C) -> Result<T
         Stmt::Insert { name, rows } => insert_owned(known, name, rows),
         other => {
             let result = check(alloc, &other, known);
-            // By one call, since a drop of each kind of statement in place is dear to prove.
+            // By one call, whichever statement it is.
             drop(other);
             result
         }
