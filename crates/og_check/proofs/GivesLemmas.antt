@@ -1,5 +1,5 @@
 -- What functions give that pass on what others gave.
-use Rattle.std.proofs.Common.{◌≡◌, Ok, Err, Result, refl, ap, sym, subst}
+use Rattle.std.proofs.Common.{◌≡◌, Ok, Err, Result, ap, sym, subst}
 use Rattle.std.specs.Result.{result_and}
 use Rattle.og_check.specs.declared.refusal.CheckRefusal.{CheckRefusal}
 use Rattle.og_check.specs.Operands.{both}

@@ -4,7 +4,7 @@ use Rattle.og_value.specs.declared.schema.Column.{Column}
 use Rattle.og_query.specs.Fits.{Known, Schemas, schemas_of, tables_of}
 use Rattle.og_check.specs.declared.names.Names.{Names}
 use Rattle.og_check.specs.declared.names.Names.TheVariants as n
-use Rattle.og_check.specs.Steps.{Checked, ◌>>=◌, ◌>>◌, pure}
+use Rattle.og_check.specs.Steps.{Checked, ◌>>◌, pure}
 use Rattle.og_check.specs.Cores.{known_columns}
 use Rattle.og_check.specs.Statements.{new_name}
 

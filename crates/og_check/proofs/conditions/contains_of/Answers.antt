@@ -1,8 +1,7 @@
-use Rattle.std.proofs.Common.{◌≡◌}
 use Rattle.og_value.specs.declared.kind.Kind.TheVariants as k
 use Rattle.og_query.specs.declared.condition.Cond.TheVariants as cond
 use Rattle.og_check.specs.Expressions.{Kinded, expr_of}
-use Rattle.og_check.specs.Steps.{◌>>=◌, ◌>>◌, pure, same_kind}
+use Rattle.og_check.specs.Steps.{◌>>◌, pure, same_kind}
 use Rattle.og_check.proofs.GivesLemmas.{gives_both, gives_and_and}
 use Rattle.og_check.proofs.conditions.contains_of.Goals as goal
 
