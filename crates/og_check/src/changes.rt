@@ -54,12 +54,7 @@ fn new_column(name: &Name, before: &[Column]) -> Result<(), CheckRefusal>
 fn has_column(name: &Name, columns: &[Column]) -> bool
     ensures { result ≡ list_any (λ other. bytes_eq other.name name.now) columns.now }
 {
-    'others: for other in columns {
-        if other.name == *name {
-            return true;
-        }
-    }
-    false
+    columns.iter().any(|other| other.name == *name)
 }
 
 /// The first fault of the tuples, of which each has a value of the kind of each column.
@@ -146,10 +141,5 @@ fn set_of(
 fn is_set(place: usize, sets: &[Assign]) -> bool
     ensures { result ≡ list_any (λ other. other.column == place) sets.now }
 {
-    'others: for other in sets {
-        if other.column == place {
-            return true;
-        }
-    }
-    false
+    sets.iter().any(|other| other.column == place)
 }

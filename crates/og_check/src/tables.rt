@@ -96,12 +96,7 @@ fn unused(alias: &Name, items: &[Item]) -> Result<(), CheckRefusal>
 fn is_used(alias: &Name, items: &[Item]) -> bool
     ensures { result ≡ list_any (λ item. bytes_eq item.0 alias.now) items.now }
 {
-    'items: for item in items {
-        if *item.alias() == *alias {
-            return true;
-        }
-    }
-    false
+    items.iter().any(|item| *item.alias() == *alias)
 }
 
 /// EXISTS and NOT EXISTS after the items.
