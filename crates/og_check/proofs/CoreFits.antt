@@ -33,7 +33,7 @@ use Rattle.og_check.specs.Steps.{Checked, ◌>>=◌, ◌>>◌, pure, in_order, i
 use Rattle.og_check.specs.Sight.{Item, Sight, Found, joined, found}
 use Rattle.og_check.specs.Expressions.{Kinded, expr_of, conds_of, where_of}
 use Rattle.og_check.specs.Cores.{known_columns, alias_of, unused, sees, sees_sub, From, no_tables, with_table, from_of, semi_of, item_name, Shown, item_of, items_from, star_from, items_of, exprs_of, columns_of, schema_of, core_of, rest_of, query_of}
-use Rattle.og_check.proofs.OkLemmas.{not_ok, ok_same, bind_ok, agree_are, turn_keeps}
+use Rattle.og_check.proofs.OkLemmas.{not_ok, ok_same, bind_ok, where_ok, agree_are, turn_keeps}
 use Rattle.og_check.proofs.Parts.{kind}
 use Rattle.og_check.proofs.SightFits.{found_fits, get_at, all_append}
 use Rattle.og_check.proofs.ExpressionFits.{expr_fits, conds_fit, where_fits}
@@ -56,9 +56,9 @@ known_are name None columns g = absurd (not_ok _ columns g)
 pub in_order_all : {A B : Type 0} (f : A → Checked B) (P : B → Type 0) → ((x : A) (y : B) → f x ≡ Ok y → P y) → (xs : List A) (ys : List B) → in_order (map f xs) ≡ Ok ys → AllByRecursion P ys
 in_order_all f P each [] ys g = subst (AllByRecursion P) (ok_same [] ys g) tt
 in_order_all f P each (x ∷ xs) ys g =
-    let b = bind_ok (f x) (λ y. do ys ← in_order (map f xs); pure (y ∷ ys)) ys g in
-    let d = bind_ok (in_order (map f xs)) (λ ys. pure (b.0 ∷ ys)) ys b.2 in
-    subst (AllByRecursion P) (ok_same (b.0 ∷ d.0) ys d.2) (each x b.0 b.1, in_order_all f P each xs d.0 d.1)
+    where_ok (f x) (λ y. do ys ← in_order (map f xs); pure (y ∷ ys)) ys (λ y h.
+    where_ok (in_order (map f xs)) (λ more. pure (y ∷ more)) ys (λ more k e.
+    subst (AllByRecursion P) (ok_same (y ∷ more) ys e) (each x y h, in_order_all f P each xs more k))) g
 
 -- FROM so far fits: its tables have the columns of their names, in the order of its items, and its conditions fit the items, whatever comes after them
 record IsFitFrom (schemas : Schemas) (from : From) : Type 0 where
@@ -84,10 +84,10 @@ IsAdded schemas from t after =
 added : (schemas : Schemas) (from : From) (t : FromText) (after : From) → with_table schemas from t ≡ Ok after → IsAdded schemas from t after
 added schemas from t after g =
     let alias = alias_of t.name t.alias in
-    let a = bind_ok (known_columns t.name (schemas t.name)) (λ xs. do unused alias from.items; conds ← conds_of (sees (from.items ++ (alias, xs) ∷ [])) t.on; pure (joined_to from t xs conds)) after g in
-    let b = bind_ok (unused alias from.items) (λ _. do conds ← conds_of (sees (from.items ++ (alias, a.0) ∷ [])) t.on; pure (joined_to from t a.0 conds)) after a.2 in
-    let d = bind_ok (conds_of (sees (from.items ++ (alias, a.0) ∷ [])) t.on) (λ conds. pure (joined_to from t a.0 conds)) after b.2 in
-    (a.0, d.0, known_are t.name (schemas t.name) a.0 a.1, d.1, ok_same (joined_to from t a.0 d.0) after d.2)
+    where_ok (known_columns t.name (schemas t.name)) (λ xs. do unused alias from.items; conds ← conds_of (sees (from.items ++ (alias, xs) ∷ [])) t.on; pure (joined_to from t xs conds)) after (λ xs h.
+    where_ok (unused alias from.items) (λ _. do conds ← conds_of (sees (from.items ++ (alias, xs) ∷ [])) t.on; pure (joined_to from t xs conds)) after (λ _ _.
+    where_ok (conds_of (sees (from.items ++ (alias, xs) ∷ [])) t.on) (λ conds. pure (joined_to from t xs conds)) after (λ conds k e.
+    (xs, conds, known_are t.name (schemas t.name) xs h, k, ok_same (joined_to from t xs conds) after e)))) g
 
 -- FROM with a table and its conditions fits
 joined_fits : (schemas : Schemas) (from : From) (t : FromText) (columns : List Column) (conds : List Cond) → schemas t.name ≡ Some columns
@@ -143,8 +143,8 @@ from_fits schemas ts from g = turn_keeps (IsFitFrom schemas) (with_table schemas
 from_some : (schemas : Schemas) (ts : List FromText) (from : From) (u : Unit {0}) → within max_tables (length ts) ≡ Ok u → from_of schemas ts ≡ Ok from → 1 ≤ length from.tables
 from_some schemas [] from u h g = absurd (not_ok _ u h)
 from_some schemas (t ∷ ts) from u h g =
-    let b = bind_ok (with_table schemas no_tables t) (λ after. in_turn (with_table schemas) after ts) from g in
-    turn_keeps (λ f. 1 ≤ length f.tables) (with_table schemas) (λ s x t k _. some_table schemas s x t k) b.0 ts from b.2 (some_table schemas no_tables t b.0 b.1)
+    where_ok (with_table schemas no_tables t) (λ after. in_turn (with_table schemas) after ts) from (λ after k e.
+    turn_keeps (λ f. 1 ≤ length f.tables) (with_table schemas) (λ s x t k _. some_table schemas s x t k) after ts from e (some_table schemas no_tables t after k)) g
 
 -- what a semi is made of
 abbrev made_semi : SemiText → List Column → Cond → Semi
@@ -154,14 +154,14 @@ made_semi s xs cond = record { positive = s.positive; table = record { name = s.
 semi_fits : (schemas : Schemas) (kinds : List Kind) (items : List Item) → kinds ≡ kinds_of (joined items) → (s : SemiText) (semi : Semi) → semi_of schemas items s ≡ Ok semi → IsFitSemi schemas kinds semi
 semi_fits schemas kinds items f s semi g =
     let alias = alias_of s.name s.alias in
-    let a = bind_ok (known_columns s.name (schemas s.name)) (λ xs. do unused alias items; cond ← where_of (sees_sub items (alias, xs)) s.cond; pure (made_semi s xs cond)) semi g in
-    let b = bind_ok (unused alias items) (λ _. do cond ← where_of (sees_sub items (alias, a.0)) s.cond; pure (made_semi s a.0 cond)) semi a.2 in
-    let d = bind_ok (where_of (sees_sub items (alias, a.0)) s.cond) (λ cond. pure (made_semi s a.0 cond)) semi b.2 in
-    subst (IsFitSemi schemas kinds) (ok_same (made_semi s a.0 d.0) semi d.2)
+    where_ok (known_columns s.name (schemas s.name)) (λ xs. do unused alias items; cond ← where_of (sees_sub items (alias, xs)) s.cond; pure (made_semi s xs cond)) semi (λ xs h.
+    where_ok (unused alias items) (λ _. do cond ← where_of (sees_sub items (alias, xs)) s.cond; pure (made_semi s xs cond)) semi (λ _ _.
+    where_ok (where_of (sees_sub items (alias, xs)) s.cond) (λ cond. pure (made_semi s xs cond)) semi (λ cond k e.
+    subst (IsFitSemi schemas kinds) (ok_same (made_semi s xs cond) semi e)
     (record {
-      table = known_are s.name (schemas s.name) a.0 a.1;
-      cond = where_fits (sees_sub items (alias, a.0)) (kinds ++ kinds_of a.0) (found_fits (sees_sub items (alias, a.0)) (kinds ++ kinds_of a.0) [] (behind a.0)) s.cond d.0 d.1;
-    })
+      table = known_are s.name (schemas s.name) xs h;
+      cond = where_fits (sees_sub items (alias, xs)) (kinds ++ kinds_of xs) (found_fits (sees_sub items (alias, xs)) (kinds ++ kinds_of xs) [] (behind xs)) s.cond cond k;
+    })))) g
   where
     behind : (xs : List Column) → kinds ++ kinds_of xs ≡ kinds_of (joined items) ++ (kinds_of (xs ++ []) ++ [])
     behind xs = ap (λ ks. ks ++ kinds_of xs) f ∙ ap (λ ks. kinds_of (joined items) ++ ks) (sym (append-nil (kinds_of (xs ++ [])) ∙ ap kinds_of (append-nil xs)))
@@ -178,17 +178,17 @@ shown_of n item p = (p.0, record { name = item_name n item; kind = p.1 })
 item_fits : (sight : Sight) (kinds : List Kind) → ((table : Option (List ℕ)) (name : List ℕ) (x : Found) → found sight table name ≡ Ok x → slice_get kinds x.0 ≡ Some x.1)
     → (n : ℕ) (item : ItemText) (x : Shown) → item_of sight n item ≡ Ok x → kind_in kinds x.0 ≡ Some x.1.kind
 item_fits sight kinds seen n item x g =
-    let b = bind_ok (expr_of sight item.expr) (λ p. pure (shown_of n item p)) x g in
-    subst (λ y. kind_in kinds y.0 ≡ Some y.1.kind) (ok_same (shown_of n item b.0) x b.2) (expr_fits sight kinds seen item.expr b.0 b.1)
+    where_ok (expr_of sight item.expr) (λ p. pure (shown_of n item p)) x (λ p h e.
+    subst (λ y. kind_in kinds y.0 ≡ Some y.1.kind) (ok_same (shown_of n item p) x e) (expr_fits sight kinds seen item.expr p h)) g
 
 -- the same of a list of items
 items_fit : (sight : Sight) (kinds : List Kind) → ((table : Option (List ℕ)) (name : List ℕ) (x : Found) → found sight table name ≡ Ok x → slice_get kinds x.0 ≡ Some x.1)
     → (n : ℕ) (items : List ItemText) (xs : List Shown) → in_order (items_from sight n items) ≡ Ok xs → AreShown kinds xs
 items_fit sight kinds seen n [] xs g = subst (AreShown kinds) (ok_same [] xs g) refl
 items_fit sight kinds seen n (item ∷ items) xs g =
-    let b = bind_ok (item_of sight n item) (λ x. do xs ← in_order (items_from sight (n + 1) items); pure (x ∷ xs)) xs g in
-    let d = bind_ok (in_order (items_from sight (n + 1) items)) (λ ys. pure (b.0 ∷ ys)) xs b.2 in
-    subst (AreShown kinds) (ok_same (b.0 ∷ d.0) xs d.2) (λ i. item_fits sight kinds seen n item b.0 b.1 i ∷ items_fit sight kinds seen (n + 1) items d.0 d.1 i)
+    where_ok (item_of sight n item) (λ x. do xs ← in_order (items_from sight (n + 1) items); pure (x ∷ xs)) xs (λ y h.
+    where_ok (in_order (items_from sight (n + 1) items)) (λ ys. pure (y ∷ ys)) xs (λ ys k e.
+    subst (AreShown kinds) (ok_same (y ∷ ys) xs e) (λ i. item_fits sight kinds seen n item y h i ∷ items_fit sight kinds seen (n + 1) items ys k i))) g
 
 -- all columns, which stand from a place on, have their kinds
 star_fits : (kinds : List Kind) (place : ℕ) (front : List Kind) (cs : List Column) (back : List Kind) → place ≡ length front → kinds ≡ front ++ (kinds_of cs ++ back) → AreShown kinds (star_from place cs)
@@ -262,43 +262,40 @@ schema_is columns schema g = let limit = bind_ok (within max_columns (length col
 semis_fit_core : (schemas : Schemas) (text : CoreText) (core : Core) (from : From) (conds : List Cond) (semis : List Semi) → 1 ≤ length from.tables → IsFitFrom schemas from
     → conds_of (sees from.items) text.cond ≡ Ok conds → in_order (map (semi_of schemas from.items) text.semis) ≡ Ok semis → after_semis text from conds semis ≡ Ok core → IsFitCore schemas core
 semis_fit_core schemas text core from conds semis some h f k g =
-    let items = bind_ok (items_of from.items text.items) (λ items. do schema ← schema_of (columns_of items); pure (made_core from conds semis (exprs_of items) schema)) core g in
-    let schema = bind_ok (schema_of (columns_of items.0)) (λ schema. pure (made_core from conds semis (exprs_of items.0) schema)) core items.2 in
-    let made : IsFitCore schemas (made_core from conds semis (exprs_of items.0) (columns_of items.0)) = core_of_parts schemas text from conds semis items.0 some h f k items.1 in
-    let whole : IsFitCore schemas (made_core from conds semis (exprs_of items.0) schema.0) =
-    subst (λ s. IsFitCore schemas (made_core from conds semis (exprs_of items.0) s)) (schema_is (columns_of items.0) schema.0 schema.1) made in
-    subst (IsFitCore schemas) (ok_same (made_core from conds semis (exprs_of items.0) schema.0) core schema.2) whole
+    where_ok (items_of from.items text.items) (λ items. do schema ← schema_of (columns_of items); pure (made_core from conds semis (exprs_of items) schema)) core (λ items i.
+    where_ok (schema_of (columns_of items)) (λ schema. pure (made_core from conds semis (exprs_of items) schema)) core (λ schema s e.
+    subst (IsFitCore schemas) (ok_same (made_core from conds semis (exprs_of items) schema) core e)
+    (subst (λ s. IsFitCore schemas (made_core from conds semis (exprs_of items) s)) (schema_is (columns_of items) schema s) (core_of_parts schemas text from conds semis items some h f k i)))) g
 
 -- a core fits where WHERE and what follows it are checked after FROM
 from_fit_core : (schemas : Schemas) (text : CoreText) (core : Core) (from : From) → 1 ≤ length from.tables → IsFitFrom schemas from → after_from text schemas from ≡ Ok core → IsFitCore schemas core
 from_fit_core schemas text core from some h g =
-    let conds =
-    bind_ok (conds_of (sees from.items) text.cond) (λ conds. do semis ← in_order (map (semi_of schemas from.items) text.semis); after_semis text from conds semis) core g in
-    let semis = bind_ok (in_order (map (semi_of schemas from.items) text.semis)) (after_semis text from conds.0) core conds.2 in
-    semis_fit_core schemas text core from conds.0 semis.0 some h conds.1 semis.1 semis.2
+    where_ok (conds_of (sees from.items) text.cond) (λ conds. do semis ← in_order (map (semi_of schemas from.items) text.semis); after_semis text from conds semis) core (λ conds f.
+    where_ok (in_order (map (semi_of schemas from.items) text.semis)) (after_semis text from conds) core (λ semis k e.
+    semis_fit_core schemas text core from conds semis some h f k e)) g
 
 -- a SELECT that is checked fits
 pub core_fits : (schemas : Schemas) (text : CoreText) (core : Core) → core_of schemas text ≡ Ok core → IsFitCore schemas core
 core_fits schemas text core g =
-    let count = bind_ok (within max_tables (length text.tables)) (λ _. do from ← from_of schemas text.tables; after_from text schemas from) core g in
-    let from = bind_ok (from_of schemas text.tables) (after_from text schemas) core count.2 in
-    from_fit_core schemas text core from.0 (from_some schemas text.tables from.0 count.0 count.1 from.1) (from_fits schemas text.tables from.0 from.1) from.2
+    where_ok (within max_tables (length text.tables)) (λ _. do from ← from_of schemas text.tables; after_from text schemas from) core (λ u h.
+    where_ok (from_of schemas text.tables) (after_from text schemas) core (λ from k e.
+    from_fit_core schemas text core from (from_some schemas text.tables from u h k) (from_fits schemas text.tables from k) e)) g
 
 -- a further SELECT that is checked fits
 rest_fits : (schemas : Schemas) (first : Core) (text : RestText) (rest : Rest) → rest_of schemas first text ≡ Ok rest → IsFitRest schemas first rest
 rest_fits schemas first text rest g =
-    let a = bind_ok (core_of schemas text.core) (λ core. do agree (kinds_of core.schema) (kinds_of first.schema); pure (record { op = text.op; core = core })) rest g in
-    let b = bind_ok (agree (kinds_of a.0.schema) (kinds_of first.schema)) (λ _. pure (record { op = text.op; core = a.0 })) rest a.2 in
-    subst (IsFitRest schemas first) (ok_same (record { op = text.op; core = a.0 }) rest b.2)
-    (record { core = core_fits schemas text.core a.0 a.1; kinds = agree_are (kinds_of a.0.schema) (kinds_of first.schema) b.0 b.1 })
+    where_ok (core_of schemas text.core) (λ core. do agree (kinds_of core.schema) (kinds_of first.schema); pure (record { op = text.op; core = core })) rest (λ core h.
+    where_ok (agree (kinds_of core.schema) (kinds_of first.schema)) (λ _. pure (record { op = text.op; core = core })) rest (λ u k e.
+    subst (IsFitRest schemas first) (ok_same (record { op = text.op; core = core }) rest e)
+    (record { core = core_fits schemas text.core core h; kinds = agree_are (kinds_of core.schema) (kinds_of first.schema) u k }))) g
 
 -- a query that is checked fits
 pub query_fits : (schemas : Schemas) (text : QueryText) (query : Query) → query_of schemas text ≡ Ok query → IsFitQuery schemas query
 query_fits schemas text query g =
-    let a = bind_ok (core_of schemas text.first) (λ first. do rest ← in_order (map (rest_of schemas first) text.rest); pure (record { first = first; rest = rest })) query g in
-    let b = bind_ok (in_order (map (rest_of schemas a.0) text.rest)) (λ rest. pure (record { first = a.0; rest = rest })) query a.2 in
-    subst (IsFitQuery schemas) (ok_same (record { first = a.0; rest = b.0 }) query b.2)
+    where_ok (core_of schemas text.first) (λ first. do rest ← in_order (map (rest_of schemas first) text.rest); pure (record { first = first; rest = rest })) query (λ first h.
+    where_ok (in_order (map (rest_of schemas first) text.rest)) (λ rest. pure (record { first = first; rest = rest })) query (λ rest k e.
+    subst (IsFitQuery schemas) (ok_same (record { first = first; rest = rest }) query e)
     (record {
-      first = core_fits schemas text.first a.0 a.1;
-      rest = All-from_recursion (IsFitRest schemas a.0) b.0 (in_order_all (rest_of schemas a.0) (IsFitRest schemas a.0) (rest_fits schemas a.0) text.rest b.0 b.1);
-    })
+      first = core_fits schemas text.first first h;
+      rest = All-from_recursion (IsFitRest schemas first) rest (in_order_all (rest_of schemas first) (IsFitRest schemas first) (rest_fits schemas first) text.rest rest k);
+    }))) g

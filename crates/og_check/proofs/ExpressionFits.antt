@@ -24,7 +24,7 @@ use Rattle.og_check.specs.Steps.{◌>>=◌, ◌>>◌, pure, in_order, agree, sam
 use Rattle.og_check.specs.Sight.{Sight, Found, found}
 use Rattle.og_check.specs.Expressions.{Kinded, wanted, given, call_of, expr_of, comparable, cond_of, conds_of, where_of}
 use Rattle.og_check.proofs.ExpressionRules.{expr_of-Column, expr_of-Lit, expr_of-Call, cond_of-And, cond_of-Or, cond_of-Not, cond_of-Compare, cond_of-Relate, cond_of-Empty, cond_of-Contains}
-use Rattle.og_check.proofs.OkLemmas.{not_ok, ok_same, bind_ok, same_is, agree_are}
+use Rattle.og_check.proofs.OkLemmas.{not_ok, ok_same, where_ok, same_is, agree_are}
 
 -- what holds of each of some things with a proof beside them
 each_of : {A : Type 0} (P : A → Type 0) (xs : List ((x : A) × P x)) → AllByRecursion P (map (λ e. e.0) xs)
@@ -82,26 +82,26 @@ module _ (sight : Sight) (kinds : List Kind) (seen : (table : Option (List ℕ))
   args_fit : (args : List ExprText) → AllByRecursion ExprFits args → (xs : List Kinded) → in_order (map (expr_of sight) args) ≡ Ok xs → all_kinds (map (kind_in kinds) (map (λ x. x.0) xs)) ≡ Some (map (λ x. x.1) xs)
   args_fit [] all xs g = subst (λ ys. all_kinds (map (kind_in kinds) (map (λ x. x.0) ys)) ≡ Some (map (λ x. x.1) ys)) (ok_same [] xs g) refl
   args_fit (arg ∷ args) all xs g =
-      let b = bind_ok (expr_of sight arg) (λ x. do xs ← in_order (map (expr_of sight) args); pure (x ∷ xs)) xs g in
-      let d = bind_ok (in_order (map (expr_of sight) args)) (λ ys. pure (b.0 ∷ ys)) xs b.2 in
-      subst (λ ys. all_kinds (map (kind_in kinds) (map (λ x. x.0) ys)) ≡ Some (map (λ x. x.1) ys)) (ok_same (b.0 ∷ d.0) xs d.2)
-      (λ i. with_kind (all.0 b.0 b.1 i) (args_fit args all.1 d.0 d.1 i))
+      where_ok (expr_of sight arg) (λ x. do xs ← in_order (map (expr_of sight) args); pure (x ∷ xs)) xs (λ y h.
+      where_ok (in_order (map (expr_of sight) args)) (λ ys. pure (y ∷ ys)) xs (λ ys k e.
+      subst (λ ys. all_kinds (map (kind_in kinds) (map (λ x. x.0) ys)) ≡ Some (map (λ x. x.1) ys)) (ok_same (y ∷ ys) xs e)
+      (λ i. with_kind (all.0 y h i) (args_fit args all.1 ys k i)))) g
 
   -- a call of arguments that fit
   call_fits : (func : Func) (args : List ExprText) → AllByRecursion ExprFits args → ExprFits (x.Call func args)
   call_fits func args all x g =
-      let b = bind_ok (in_order (map (expr_of sight) args)) (λ xs. call_of func (map (λ x. x.0) xs) (map (λ x. x.1) xs)) x (sym (expr_of-Call sight func args) ∙ g) in
-      let exprs = map (λ x. x.0) b.0 in
-      let kinds_ = map (λ x. x.1) b.0 in
-      let same = bind_ok (agree kinds_ (wanted func)) (λ _. pure (e.Call func exprs, given func)) x b.2 in
-      subst (λ y. kind_in kinds y.0 ≡ Some y.1) (ok_same (e.Call func exprs, given func) x same.2)
-      (kind_in-Call kinds func exprs ∙ ap (call_kind_of func) (args_fit args all b.0 b.1) ∙ ap (call_kind func) (agree_are kinds_ (wanted func) same.0 same.1) ∙ given_fits func)
+      where_ok (in_order (map (expr_of sight) args)) (λ xs. call_of func (map (λ x. x.0) xs) (map (λ x. x.1) xs)) x (λ xs h.
+      where_ok (agree (map (λ x. x.1) xs) (wanted func)) (λ _. pure (e.Call func (map (λ x. x.0) xs), given func)) x (λ u k same.
+      subst (λ y. kind_in kinds y.0 ≡ Some y.1) (ok_same (e.Call func (map (λ x. x.0) xs), given func) x same)
+      (kind_in-Call kinds func (map (λ x. x.0) xs) ∙ ap (call_kind_of func) (args_fit args all xs h) ∙ ap (call_kind func) (agree_are (map (λ x. x.1) xs) (wanted func) u k) ∙ given_fits func)))
+      (sym (expr_of-Call sight func args) ∙ g)
 
   -- a column that is found
   column_fits : (table : Option (List ℕ)) (name : List ℕ) → ExprFits (x.Column table name)
   column_fits table name x g =
-      let b = bind_ok (found sight table name) (λ p. pure (e.Column p.0, p.1)) x (sym (expr_of-Column sight table name) ∙ g) in
-      subst (λ y. kind_in kinds y.0 ≡ Some y.1) (ok_same (e.Column b.0.0, b.0.1) x b.2) (kind_in-Column kinds b.0.0 ∙ seen table name b.0 b.1)
+      where_ok (found sight table name) (λ p. pure (e.Column p.0, p.1)) x (λ p h same.
+      subst (λ y. kind_in kinds y.0 ≡ Some y.1) (ok_same (e.Column p.0, p.1) x same) (kind_in-Column kinds p.0 ∙ seen table name p h))
+      (sym (expr_of-Column sight table name) ∙ g)
 
   -- a literal
   literal_fits : (value : Value) → ExprFits (x.Lit value)
@@ -119,36 +119,40 @@ module _ (sight : Sight) (kinds : List Kind) (seen : (table : Option (List ℕ))
   parts_fit : (parts : List CondText) → AllByRecursion CondFits parts → (xs : List Cond) → in_order (map (cond_of sight) parts) ≡ Ok xs → list_all (fits kinds) xs ≡ true
   parts_fit [] all xs g = subst (λ ys. list_all (fits kinds) ys ≡ true) (ok_same [] xs g) refl
   parts_fit (part ∷ parts) all xs g =
-      let b = bind_ok (cond_of sight part) (λ x. do xs ← in_order (map (cond_of sight) parts); pure (x ∷ xs)) xs g in
-      let d = bind_ok (in_order (map (cond_of sight) parts)) (λ ys. pure (b.0 ∷ ys)) xs b.2 in
-      subst (λ ys. list_all (fits kinds) ys ≡ true) (ok_same (b.0 ∷ d.0) xs d.2) (λ i. all.0 b.0 b.1 i && parts_fit parts all.1 d.0 d.1 i)
+      where_ok (cond_of sight part) (λ x. do xs ← in_order (map (cond_of sight) parts); pure (x ∷ xs)) xs (λ y h.
+      where_ok (in_order (map (cond_of sight) parts)) (λ ys. pure (y ∷ ys)) xs (λ ys k e.
+      subst (λ ys. list_all (fits kinds) ys ≡ true) (ok_same (y ∷ ys) xs e) (λ i. all.0 y h i && parts_fit parts all.1 ys k i))) g
 
   -- AND
   and_fits : (parts : List CondText) → AllByRecursion CondFits parts → CondFits (y.And parts)
   and_fits parts all x g =
-      let b = bind_ok (in_order (map (cond_of sight) parts)) (λ xs. pure (c.And xs)) x (sym (cond_of-And sight parts) ∙ g) in
-      subst (λ z. fits kinds z ≡ true) (ok_same (c.And b.0) x b.2) (fits-And kinds b.0 ∙ parts_fit parts all b.0 b.1)
+      where_ok (in_order (map (cond_of sight) parts)) (λ xs. pure (c.And xs)) x (λ xs h e.
+      subst (λ z. fits kinds z ≡ true) (ok_same (c.And xs) x e) (fits-And kinds xs ∙ parts_fit parts all xs h))
+      (sym (cond_of-And sight parts) ∙ g)
 
   -- OR
   or_fits : (parts : List CondText) → AllByRecursion CondFits parts → CondFits (y.Or parts)
   or_fits parts all x g =
-      let b = bind_ok (in_order (map (cond_of sight) parts)) (λ xs. pure (c.Or xs)) x (sym (cond_of-Or sight parts) ∙ g) in
-      subst (λ z. fits kinds z ≡ true) (ok_same (c.Or b.0) x b.2) (fits-Or kinds b.0 ∙ parts_fit parts all b.0 b.1)
+      where_ok (in_order (map (cond_of sight) parts)) (λ xs. pure (c.Or xs)) x (λ xs h e.
+      subst (λ z. fits kinds z ≡ true) (ok_same (c.Or xs) x e) (fits-Or kinds xs ∙ parts_fit parts all xs h))
+      (sym (cond_of-Or sight parts) ∙ g)
 
   -- NOT
   not_fits : (part : CondText) → CondFits part → CondFits (y.Not part)
   not_fits part h x g =
-      let b = bind_ok (cond_of sight part) (λ z. pure (c.Not z)) x (sym (cond_of-Not sight part) ∙ g) in
-      subst (λ z. fits kinds z ≡ true) (ok_same (c.Not b.0) x b.2) (fits-Not kinds b.0 ∙ h b.0 b.1)
+      where_ok (cond_of sight part) (λ z. pure (c.Not z)) x (λ y k e.
+      subst (λ z. fits kinds z ≡ true) (ok_same (c.Not y) x e) (fits-Not kinds y ∙ h y k))
+      (sym (cond_of-Not sight part) ∙ g)
 
   -- a comparison
   compare_fits : (op : Cmp) (left right : ExprText) → CondFits (y.Compare op left right)
   compare_fits op left right x g =
-      let a = bind_ok (expr_of sight left) (λ p. do q ← expr_of sight right; comparable p.1 q.1; pure (c.Compare op p.0 q.0)) x (sym (cond_of-Compare sight op left right) ∙ g) in
-      let b = bind_ok (expr_of sight right) (λ q. do comparable a.0.1 q.1; pure (c.Compare op a.0.0 q.0)) x a.2 in
-      let d = bind_ok (comparable a.0.1 b.0.1) (λ _. pure (c.Compare op a.0.0 b.0.0)) x b.2 in
-      subst (λ z. fits kinds z ≡ true) (ok_same (c.Compare op a.0.0 b.0.0) x d.2)
-      (fits-Compare kinds op a.0.0 b.0.0 ∙ (λ i. are_comparable (expr_fits left a.0 a.1 i) (expr_fits right b.0 b.1 i)) ∙ comparable_are a.0.1 b.0.1 d.0 d.1)
+      where_ok (expr_of sight left) (λ p. do q ← expr_of sight right; comparable p.1 q.1; pure (c.Compare op p.0 q.0)) x (λ p a.
+      where_ok (expr_of sight right) (λ q. do comparable p.1 q.1; pure (c.Compare op p.0 q.0)) x (λ q b.
+      where_ok (comparable p.1 q.1) (λ _. pure (c.Compare op p.0 q.0)) x (λ u d e.
+      subst (λ z. fits kinds z ≡ true) (ok_same (c.Compare op p.0 q.0) x e)
+      (fits-Compare kinds op p.0 q.0 ∙ (λ i. are_comparable (expr_fits left p a i) (expr_fits right q b i)) ∙ comparable_are p.1 q.1 u d))))
+      (sym (cond_of-Compare sight op left right) ∙ g)
 
   -- the expression is a period
   period_is : (expr : ExprText) (p : Kinded) (u : Unit {0}) → expr_of sight expr ≡ Ok p → same_kind p.1 k.Period ≡ Ok u → is_period (kind_in kinds p.0) ≡ true
@@ -161,29 +165,32 @@ module _ (sight : Sight) (kinds : List Kind) (seen : (table : Option (List ℕ))
   -- a predicate
   relate_fits : (pred : Pred) (left right : ExprText) → CondFits (y.Relate pred left right)
   relate_fits pred left right x g =
-      let a = bind_ok (expr_of sight left) (λ p. do q ← expr_of sight right; same_kind p.1 k.Period; same_kind q.1 k.Period; pure (c.Relate pred p.0 q.0)) x (sym (cond_of-Relate sight pred left right) ∙ g) in
-      let b = bind_ok (expr_of sight right) (λ q. do same_kind a.0.1 k.Period; same_kind q.1 k.Period; pure (c.Relate pred a.0.0 q.0)) x a.2 in
-      let d = bind_ok (same_kind a.0.1 k.Period) (λ _. do same_kind b.0.1 k.Period; pure (c.Relate pred a.0.0 b.0.0)) x b.2 in
-      let f = bind_ok (same_kind b.0.1 k.Period) (λ _. pure (c.Relate pred a.0.0 b.0.0)) x d.2 in
-      subst (λ z. fits kinds z ≡ true) (ok_same (c.Relate pred a.0.0 b.0.0) x f.2)
-      (fits-Relate kinds pred a.0.0 b.0.0 ∙ (λ i. period_is left a.0 d.0 a.1 d.1 i && period_is right b.0 f.0 b.1 f.1 i))
+      where_ok (expr_of sight left) (λ p. do q ← expr_of sight right; same_kind p.1 k.Period; same_kind q.1 k.Period; pure (c.Relate pred p.0 q.0)) x (λ p a.
+      where_ok (expr_of sight right) (λ q. do same_kind p.1 k.Period; same_kind q.1 k.Period; pure (c.Relate pred p.0 q.0)) x (λ q b.
+      where_ok (same_kind p.1 k.Period) (λ _. do same_kind q.1 k.Period; pure (c.Relate pred p.0 q.0)) x (λ u d.
+      where_ok (same_kind q.1 k.Period) (λ _. pure (c.Relate pred p.0 q.0)) x (λ v f e.
+      subst (λ z. fits kinds z ≡ true) (ok_same (c.Relate pred p.0 q.0) x e)
+      (fits-Relate kinds pred p.0 q.0 ∙ (λ i. period_is left p u a d i && period_is right q v b f i))))))
+      (sym (cond_of-Relate sight pred left right) ∙ g)
 
   -- the test of a period for days
   empty_fits : (period : ExprText) → CondFits (y.Empty period)
   empty_fits period x g =
-      let a = bind_ok (expr_of sight period) (λ p. do same_kind p.1 k.Period; pure (c.Empty p.0)) x (sym (cond_of-Empty sight period) ∙ g) in
-      let d = bind_ok (same_kind a.0.1 k.Period) (λ _. pure (c.Empty a.0.0)) x a.2 in
-      subst (λ z. fits kinds z ≡ true) (ok_same (c.Empty a.0.0) x d.2) (fits-Empty kinds a.0.0 ∙ period_is period a.0 d.0 a.1 d.1)
+      where_ok (expr_of sight period) (λ p. do same_kind p.1 k.Period; pure (c.Empty p.0)) x (λ p a.
+      where_ok (same_kind p.1 k.Period) (λ _. pure (c.Empty p.0)) x (λ u d e.
+      subst (λ z. fits kinds z ≡ true) (ok_same (c.Empty p.0) x e) (fits-Empty kinds p.0 ∙ period_is period p u a d)))
+      (sym (cond_of-Empty sight period) ∙ g)
 
   -- the test of a period for a day
   contains_fits : (period day : ExprText) → CondFits (y.Contains period day)
   contains_fits period day x g =
-      let a = bind_ok (expr_of sight period) (λ p. do q ← expr_of sight day; same_kind p.1 k.Period; same_kind q.1 k.Date; pure (c.Contains p.0 q.0)) x (sym (cond_of-Contains sight period day) ∙ g) in
-      let b = bind_ok (expr_of sight day) (λ q. do same_kind a.0.1 k.Period; same_kind q.1 k.Date; pure (c.Contains a.0.0 q.0)) x a.2 in
-      let d = bind_ok (same_kind a.0.1 k.Period) (λ _. do same_kind b.0.1 k.Date; pure (c.Contains a.0.0 b.0.0)) x b.2 in
-      let f = bind_ok (same_kind b.0.1 k.Date) (λ _. pure (c.Contains a.0.0 b.0.0)) x d.2 in
-      subst (λ z. fits kinds z ≡ true) (ok_same (c.Contains a.0.0 b.0.0) x f.2)
-      (fits-Contains kinds a.0.0 b.0.0 ∙ (λ i. period_is period a.0 d.0 a.1 d.1 i && date_is day b.0 f.0 b.1 f.1 i))
+      where_ok (expr_of sight period) (λ p. do q ← expr_of sight day; same_kind p.1 k.Period; same_kind q.1 k.Date; pure (c.Contains p.0 q.0)) x (λ p a.
+      where_ok (expr_of sight day) (λ q. do same_kind p.1 k.Period; same_kind q.1 k.Date; pure (c.Contains p.0 q.0)) x (λ q b.
+      where_ok (same_kind p.1 k.Period) (λ _. do same_kind q.1 k.Date; pure (c.Contains p.0 q.0)) x (λ u d.
+      where_ok (same_kind q.1 k.Date) (λ _. pure (c.Contains p.0 q.0)) x (λ v f e.
+      subst (λ z. fits kinds z ≡ true) (ok_same (c.Contains p.0 q.0) x e)
+      (fits-Contains kinds p.0 q.0 ∙ (λ i. period_is period p u a d i && date_is day q v b f i))))))
+      (sym (cond_of-Contains sight period day) ∙ g)
 
   -- a condition that is checked fits
   pub cond_fits : (cond : CondText) → CondFits cond
@@ -193,8 +200,8 @@ module _ (sight : Sight) (kinds : List Kind) (seen : (table : Option (List ℕ))
   pub conds_fit : (cond : Option CondText) (xs : List Cond) → conds_of sight cond ≡ Ok xs → list_all (fits kinds) xs ≡ true
   conds_fit None xs g = subst (λ ys. list_all (fits kinds) ys ≡ true) (ok_same [] xs g) refl
   conds_fit (Some cond) xs g =
-      let b = bind_ok (cond_of sight cond) (λ x. pure (x ∷ [])) xs g in
-      subst (λ ys. list_all (fits kinds) ys ≡ true) (ok_same (b.0 ∷ []) xs b.2) (ap (λ z. z && true) (cond_fits cond b.0 b.1))
+      where_ok (cond_of sight cond) (λ x. pure (x ∷ [])) xs (λ y h e.
+      subst (λ ys. list_all (fits kinds) ys ≡ true) (ok_same (y ∷ []) xs e) (ap (λ z. z && true) (cond_fits cond y h))) g
 
   -- the condition of WHERE fits
   pub where_fits : (cond : Option CondText) (x : Cond) → where_of sight cond ≡ Ok x → fits kinds x ≡ true

@@ -4,7 +4,7 @@ use Rattle.std.specs.List.{AllByRecursion}
 use Rattle.og_value.specs.declared.kind.Kind.{Kind}
 use Rattle.og_value.specs.declared.kind.Kind.TheVariants as k
 use Rattle.og_check.specs.declared.refusal.CheckRefusal.{CheckRefusal}
-use Rattle.og_check.specs.Steps.{Checked, ◌>>=◌, unless, is_kind, same_kind, same_kinds, same_count, agree, in_turn, on_each}
+use Rattle.og_check.specs.Steps.{Checked, ◌>>=◌, pure, unless, is_kind, same_kind, same_kinds, same_count, agree, in_turn, on_each}
 
 -- whether there is a value
 abbrev is_ok : {A : Type 0} → Checked A → Bool
@@ -28,6 +28,21 @@ ok_same x y e = ap (value_or x) e
 pub bind_ok : {A B : Type 0} (p : Checked A) (f : A → Checked B) (y : B) → (p >>= f) ≡ Ok y → (x : A) × (p ≡ Ok x) × (f x ≡ Ok y)
 bind_ok (Ok x) f y e = (x, refl, e)
 bind_ok (Err fault) f y e = absurd (not_ok fault y e)
+
+-- the fault, or the given one where there is a value
+abbrev fault_or : {A : Type 0} → CheckRefusal → Checked A → CheckRefusal
+fault_or d (Ok x) = d
+fault_or d (Err fault) = fault
+
+-- where a value that is made of another one is a fault, the other one is it
+pub same_fault : {A B : Type 0} (p : Checked A) (f : A → B) (fault : CheckRefusal) → (do x ← p; pure (f x)) ≡ Err fault → p ≡ Err fault
+same_fault (Ok x) f fault e = absurd (not_ok fault (f x) (sym e))
+same_fault (Err reason) f fault e = ap (λ z. Err z) (ap (fault_or reason) e)
+
+-- what follows where both steps give a value
+pub where_ok : {A B : Type 0} {P : Type 0} (p : Checked A) (f : A → Checked B) (y : B) → ((x : A) → p ≡ Ok x → f x ≡ Ok y → P) → (p >>= f) ≡ Ok y → P
+where_ok (Ok x) f y h e = h x refl e
+where_ok (Err fault) f y h e = absurd (not_ok fault y e)
 
 -- where there is no fault, the test holds
 pub unless_ok : (good : Bool) (fault : CheckRefusal) (u : Unit {0}) → unless good fault ≡ Ok u → good ≡ true

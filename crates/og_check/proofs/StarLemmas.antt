@@ -1,15 +1,16 @@
 -- The items of SELECT, one after the other.
-use Rattle.std.proofs.Common.{◌≡◌, ◌+◌, ◌++◌, ◌<◌, ◌≤◌, ℕ, suc, List, [], ◌∷◌, Ok, Err, length, drop, get_or, refl, ap, sym, ◌∙◌, append_assoc, length-append, arith}
+use Rattle.std.proofs.Common.{◌≡◌, ◌+◌, ◌++◌, ◌<◌, ◌≤◌, ℕ, suc, List, [], ◌∷◌, Ok, Err, length, drop, get_or, refl, ap, sym, subst, ◌∙◌, append_assoc, length-append, arith}
 use Rattle.std.proofs.lemmas.List.{map-append, drop_all}
 use Rattle.og_value.specs.declared.schema.Column.{Column}
 use Rattle.og_syntax.specs.declared.tree.ItemText.{ItemText}
 use Rattle.og_query.specs.declared.expression.Expr.{Expr}
 use Rattle.og_query.specs.declared.expression.Expr.TheVariants as e
 use Rattle.og_check.specs.declared.refusal.CheckRefusal.{CheckRefusal}
-use Rattle.og_check.specs.Fronts.{with_fronts}
+use Rattle.og_check.specs.Fronts.{with_fronts, with_pair}
 use Rattle.og_check.specs.Steps.{Checked, ◌>>=◌, pure, in_order}
 use Rattle.og_check.specs.Sight.{Sight}
 use Rattle.og_check.specs.Cores.{Shown, star_from, item_of, items_from, exprs_of, columns_of}
+use Rattle.og_check.proofs.OkLemmas.{ok_same, same_fault, where_ok}
 use Rattle.og_check.proofs.Parts.{left}
 use Rattle.og_check.proofs.StepLemmas.{fronts-more, fronts-done}
 
@@ -66,19 +67,28 @@ star_next xs ys cs ds zs xs1 ys1 f g =
     second = ap second_of (sym g)
 
 -- with the item at a place, those after it are left
-pub items_next : (sight : Sight) (xs : List Expr) (ys : List Column) (list : List ItemText) (i : ℕ) (x : ItemText) (y : Shown) → i < length list → x ≡ get_or list i x → item_of sight (i + 1) x ≡ Ok y
+items_next : (sight : Sight) (xs : List Expr) (ys : List Column) (list : List ItemText) (i : ℕ) (x : ItemText) (y : Shown) → i < length list → x ≡ get_or list i x → item_of sight (i + 1) x ≡ Ok y
     → with_fronts (xs ++ y.0 ∷ []) (ys ++ y.1 ∷ []) (in_order (items_from sight (i + 1 + 1) (drop (i + 1) list))) ≡ with_fronts xs ys (in_order (items_from sight (i + 1) (drop i list)))
 items_next sight xs ys list i x y h e g =
     sym (fronts-more xs ys y (in_order (items_from sight (i + 1 + 1) (drop (i + 1) list))))
     ∙ ap (λ p. with_fronts xs ys (do y ← p; zs ← in_order (items_from sight (i + 1 + 1) (drop (i + 1) list)); pure (y ∷ zs))) (sym g)
     ∙ ap (λ zs. with_fronts xs ys (in_order (items_from sight (i + 1) zs))) (sym (left list i x h e))
 
+-- the same where the lists with the item are given
+pub items_added : (sight : Sight) (xs : List Expr) (ys : List Column) (list : List ItemText) (i : ℕ) (x : ItemText) (xs1 : List Expr) (ys1 : List Column) → i < length list → x ≡ get_or list i x
+    → with_pair xs ys (item_of sight (i + 1) x) ≡ Ok (xs1, ys1)
+    → with_fronts xs1 ys1 (in_order (items_from sight (i + 1 + 1) (drop (i + 1) list))) ≡ with_fronts xs ys (in_order (items_from sight (i + 1) (drop i list)))
+items_added sight xs ys list i x xs1 ys1 h e g =
+    where_ok (item_of sight (i + 1) x) (λ y. pure (xs ++ y.0 ∷ [], ys ++ y.1 ∷ [])) (xs1, ys1) (λ y k same.
+    subst (λ z. with_fronts z.0 z.1 (in_order (items_from sight (i + 1 + 1) (drop (i + 1) list))) ≡ with_fronts xs ys (in_order (items_from sight (i + 1) (drop i list))))
+    (ok_same (xs ++ y.0 ∷ [], ys ++ y.1 ∷ []) (xs1, ys1) same) (items_next sight xs ys list i x y h e k)) g
+
 -- a fault, and the rest is not looked at
-pub items_stop : (sight : Sight) (xs : List Expr) (ys : List Column) (list : List ItemText) (i : ℕ) (x : ItemText) (fault : CheckRefusal) → i < length list → x ≡ get_or list i x → item_of sight (i + 1) x ≡ Err fault
-    → with_fronts xs ys (in_order (items_from sight (i + 1) (drop i list))) ≡ Err fault
+pub items_stop : (sight : Sight) (xs : List Expr) (ys : List Column) (list : List ItemText) (i : ℕ) (x : ItemText) (fault : CheckRefusal) → i < length list → x ≡ get_or list i x
+    → with_pair xs ys (item_of sight (i + 1) x) ≡ Err fault → with_fronts xs ys (in_order (items_from sight (i + 1) (drop i list))) ≡ Err fault
 items_stop sight xs ys list i x fault h e g =
     ap (λ zs. with_fronts xs ys (in_order (items_from sight (i + 1) zs))) (left list i x h e)
-    ∙ ap (λ p. with_fronts xs ys (do y ← p; zs ← in_order (items_from sight (i + 1 + 1) (drop (i + 1) list)); pure (y ∷ zs))) g
+    ∙ ap (λ p. with_fronts xs ys (do y ← p; zs ← in_order (items_from sight (i + 1 + 1) (drop (i + 1) list)); pure (y ∷ zs))) (same_fault (item_of sight (i + 1) x) (λ y. (xs ++ y.0 ∷ [], ys ++ y.1 ∷ [])) fault g)
 
 -- nothing is left at the end
 pub items_done : (sight : Sight) (xs : List Expr) (ys : List Column) (list : List ItemText) (i : ℕ) → length list ≤ i → with_fronts xs ys (in_order (items_from sight (i + 1) (drop i list))) ≡ Ok (xs, ys)

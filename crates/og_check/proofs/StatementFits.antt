@@ -27,7 +27,7 @@ use Rattle.og_check.specs.Expressions.{expr_of, where_of}
 use Rattle.og_check.specs.Cores.{query_of}
 use Rattle.og_check.specs.Statements as spec
 use Rattle.og_check.specs.Statements.{new_name, new_columns, table_columns, named_columns, tuple_of, set_of, with_set, sets_of, sees_table}
-use Rattle.og_check.proofs.OkLemmas.{not_ok, ok_same, bind_ok, unless_ok, same_is, agree_are, turn_keeps, on_each_all}
+use Rattle.og_check.proofs.OkLemmas.{not_ok, ok_same, bind_ok, where_ok, unless_ok, same_is, agree_are, turn_keeps, on_each_all}
 use Rattle.og_check.proofs.SightFits.{found_fits, all_append}
 use Rattle.og_check.proofs.ExpressionFits.{expr_fits, where_fits}
 use Rattle.og_check.proofs.CoreFits.{known_are, query_fits}
@@ -97,14 +97,14 @@ set_fits : (name : List ℕ) (columns : List Column) (before : List Assign) (tex
 set_fits name columns before text set g =
     let sight = sees_table name columns in
     let fault = r.NameTaken text.column in
-    let a = bind_ok (found sight None text.column) (λ column. do unless (not (list_any (λ other. other.column == column.0) before)) fault; value ← expr_of sight text.expr; same_kind value.1 column.1; pure (made_set column.0 value.0)) set g in
-    let b = bind_ok (unless (not (list_any (λ other. other.column == a.0.0) before)) fault) (λ _. do value ← expr_of sight text.expr; same_kind value.1 a.0.1; pure (made_set a.0.0 value.0)) set a.2 in
-    let d = bind_ok (expr_of sight text.expr) (λ value. do same_kind value.1 a.0.1; pure (made_set a.0.0 value.0)) set b.2 in
-    let f = bind_ok (same_kind d.0.1 a.0.1) (λ _. pure (made_set a.0.0 d.0.0)) set d.2 in
-    subst (λ s. IsFitAssign columns s × AllByRecursion (λ other. ¬ (s.column ≡ other)) (map place_of before)) (ok_same (made_set a.0.0 d.0.0) set f.2) (
-      (a.0.1, table_found name columns None text.column a.0 a.1, expr_fits sight (kinds_of columns) (table_found name columns) text.expr d.0 d.1 ∙ ap (λ k. Some k) (same_is d.0.1 a.0.1 f.0 f.1)),
-      none_has a.0.0 before (unless_ok (not (list_any (λ other. other.column == a.0.0) before)) fault b.0 b.1),
-    )
+    where_ok (found sight None text.column) (λ column. do unless (not (list_any (λ other. other.column == column.0) before)) fault; value ← expr_of sight text.expr; same_kind value.1 column.1; pure (made_set column.0 value.0)) set (λ column a.
+    where_ok (unless (not (list_any (λ other. other.column == column.0) before)) fault) (λ _. do value ← expr_of sight text.expr; same_kind value.1 column.1; pure (made_set column.0 value.0)) set (λ u b.
+    where_ok (expr_of sight text.expr) (λ value. do same_kind value.1 column.1; pure (made_set column.0 value.0)) set (λ value d.
+    where_ok (same_kind value.1 column.1) (λ _. pure (made_set column.0 value.0)) set (λ v f e.
+    subst (λ s. IsFitAssign columns s × AllByRecursion (λ other. ¬ (s.column ≡ other)) (map place_of before)) (ok_same (made_set column.0 value.0) set e) (
+      (column.1, table_found name columns None text.column column a, expr_fits sight (kinds_of columns) (table_found name columns) text.expr value d ∙ ap (λ k. Some k) (same_is value.1 column.1 v f)),
+      none_has column.0 before (unless_ok (not (list_any (λ other. other.column == column.0) before)) fault u b),
+    ))))) g
 
 -- assignments with one more that is checked fit
 with_set_fits : (name : List ℕ) (columns : List Column) (before : List Assign) (text : SetText) (after : List Assign) → with_set (sees_table name columns) before text ≡ Ok after → AreFit columns before → AreFit columns after

@@ -1,5 +1,5 @@
 -- What loops have checked so far, before the rest. Beside private functions alone.
-use Rattle.std.specs.Prelude.{◌++◌, List, [], map}
+use Rattle.std.specs.Prelude.{◌++◌, List, [], ◌∷◌, map}
 use Rattle.og_check.specs.Steps.{Checked, ◌>>=◌, pure}
 
 -- the front of a list before the rest that is checked
@@ -13,3 +13,7 @@ with_fronts left right rest = do xs ← rest; pure (left ++ map (λ x. x.0) xs, 
 -- pairs that are checked, as two lists
 abbrev pub parted : {A B : Type 0} → Checked (List (A × B)) → Checked (List A × List B)
 parted = with_fronts [] []
+
+-- two lists with a pair that is checked, parted, at their ends
+abbrev pub with_pair : {A B : Type 0} → List A → List B → Checked (A × B) → Checked (List A × List B)
+with_pair left right pair = do x ← pair; pure (left ++ x.0 ∷ [], right ++ x.1 ∷ [])

@@ -3,8 +3,11 @@ pub mod Expressions
 pub mod Fronts
 pub mod Hits
 pub mod Limits
+pub mod Makings
 pub mod Names
+pub mod Operands
 pub mod Results
+pub mod Selects
 pub mod Shown
 pub mod Sight
 pub mod Statements

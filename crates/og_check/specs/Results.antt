@@ -19,3 +19,8 @@ lent (Err reason) = Err reason
 abbrev pub listed : {A : Type 0} → Result (Vec A Global) CheckRefusal → Result (List A) CheckRefusal
 listed (Ok xs) = Ok xs.items
 listed (Err reason) = Err reason
+
+-- what a function wrote, where it gave no fault
+abbrev pub wrote : {A : Type 0} → A → Result (Unit {0}) CheckRefusal → Result A CheckRefusal
+wrote x (Ok u) = Ok x
+wrote x (Err reason) = Err reason

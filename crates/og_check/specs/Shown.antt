@@ -8,8 +8,12 @@ use Rattle.og_check.specs.declared.refusal.CheckRefusal.{CheckRefusal}
 use Rattle.og_check.specs.Cores.{From}
 
 -- the items, and their columns
+abbrev pub shown_in : Shown → List Expr × List Column
+shown_in x = (x.exprs, x.columns.items)
+
+-- the same where a function gave them
 abbrev pub shown : Result Shown CheckRefusal → Result (List Expr × List Column) CheckRefusal
-shown (Ok x) = Ok (x.exprs, x.columns.items)
+shown (Ok x) = Ok (shown_in x)
 shown (Err reason) = Err reason
 
 -- what FROM gives

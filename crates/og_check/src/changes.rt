@@ -1,8 +1,8 @@
 //! The checks of CREATE TABLE, INSERT and UPDATE.
-ghost use Rattle.std.specs.Prelude.{◌≡◌, ◌==◌, ◌++◌, ◌∷◌, [], IfOk};
+ghost use Rattle.std.specs.Prelude.{◌≡◌, ◌==◌, ◌++◌, ◌∷◌, [], IfOk, OnOk};
 ghost use Rattle.std.specs.List.{list_any};
 ghost use Rattle.std.specs.Str.{bytes_eq};
-ghost use Rattle.og_check.specs.Results.{Gives, listed};
+ghost use Rattle.og_check.specs.Results.{Gives, listed, wrote};
 ghost use Rattle.og_check.specs.Statements as spec;
 ghost use Rattle.og_check.specs.Steps.{on_each};
 
@@ -25,20 +25,19 @@ pub fn new_columns(alloc: Global, columns: &[Column]) -> Result<Vec<Column>, Che
 {
     let mut new = Vec::new(alloc);
     'each: for column in columns {
-        new = with_column(new, column)?;
+        add_column(column, &mut new)?;
     }
     Ok(new)
 }
 
-// With one more column, which has another name than those before it.
-fn with_column(before: Vec<Column>, column: &Column) -> Result<Vec<Column>, CheckRefusal>
-    ensures new { Gives (listed result) (spec.with_column before.items column.now) }
-    ensures same { IfOk result (λ new. new.items ≡ before.items ++ column.now ∷ []) }
+// Adds the column, which has another name than those before it.
+fn add_column(column: &Column, columns: &mut Vec<Column>) -> Result<(), CheckRefusal>
+    ensures new { Gives (wrote columns.new.items result) (spec.with_column columns.old.items column.now) }
+    ensures same { OnOk result (columns.new.items ≡ columns.old.items ++ column.now ∷ []) }
 {
-    let mut columns = before;
     new_column(&column.name, columns.as_slice())?;
     columns.push(column.copy()?)?;
-    Ok(columns)
+    Ok(())
 }
 
 // `NameTaken` exactly where one of the columns has the name.
@@ -100,24 +99,23 @@ pub fn sets_of(
 {
     let mut typed = Items::new(alloc);
     'each: for set in sets {
-        typed = with_set(alloc, sight, typed, set)?;
+        add_set(alloc, sight, set, &mut typed)?;
     }
     Ok(typed)
 }
 
-// With one more assignment.
-fn with_set(
+// Adds one more assignment.
+fn add_set(
     alloc: Global,
     sight: &Sight,
-    before: Items<Assign>,
     set: &SetText,
-) -> Result<Items<Assign>, CheckRefusal>
-    ensures { Gives result (spec.with_set sight.now before set.now) }
+    sets: &mut Items<Assign>,
+) -> Result<(), CheckRefusal>
+    ensures { Gives (wrote sets.new result) (spec.with_set sight.now sets.old set.now) }
 {
-    let mut sets = before;
     let one = set_of(alloc, sight, sets.as_slice(), set)?;
     sets.push(one)?;
-    Ok(sets)
+    Ok(())
 }
 
 // The assignment, whose column is not one of those that are set before.
@@ -136,8 +134,7 @@ fn set_of(
         });
     }
     let (expr, found) = expr_of(alloc, sight, &set.expr)?;
-    same_kind(found, wanted)?;
-    Ok(Assign { column, expr })
+    same_kind(found, wanted).and(Ok(Assign { column, expr }))
 }
 
 // Whether one of the assignments sets the column at the place.

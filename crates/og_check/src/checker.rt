@@ -2,18 +2,21 @@
 ghost use Rattle.std.specs.Prelude.{◌≡◌, Ok, Err, IfOk, IfErr};
 ghost use Rattle.og_check.specs.Statements.{checked};
 ghost use Rattle.og_check.specs.Statements as spec;
+ghost use Rattle.og_check.specs.Expressions.{where_of};
+ghost use Rattle.og_check.specs.Makings.{named_query, named_where, new_schema, tuples_agree};
+ghost use Rattle.og_check.specs.Names.{schemas_in};
 ghost use Rattle.og_check.specs.Results.{Gives};
 ghost use Rattle.og_check.specs.Steps.{OrNoMemory};
 
 use crate::changes::{new_columns, rows_agree, rows_copied, sets_of};
 use crate::conditions::where_of;
 use crate::kinds::within;
-use crate::names::{Names, known_columns, new_name};
+use crate::names::{Names, fresh_name, known_columns, known_name};
 use crate::queries::query_of;
 use crate::refusal::CheckRefusal;
 use crate::sight::{Item, Sight};
-use og_base::RefDay;
-use og_query::Typed;
+use og_base::{NoMemory, RefDay};
+use og_query::{Assign, Cond, Query, Typed};
 use og_syntax::{CondText, QueryText, SetText, Stmt};
 use og_value::{Catalog, Column, MAX_COLUMNS, Name, Row, Schema, Text};
 use sqlite_items::Items;
@@ -38,7 +41,7 @@ pub fn check_owned<C: Catalog>(alloc: Global, stmt: Stmt, known: &C) -> Result<T
         Stmt::Insert { name, rows } => insert_owned(known, name, rows),
         other => {
             let result = check(alloc, &other, known);
-            // By one call, since a drop of each kind of statement in place is dear to prove.
+            // By one call, whichever statement it is.
             drop(other);
             result
         }
@@ -77,13 +80,23 @@ fn create<C: Catalog>(
 ) -> Result<Typed, CheckRefusal>
     ensures { Gives result (spec.create (C.known known.now) name.now columns.now) }
 {
-    new_name(known, name)?;
+    let name = fresh_name(known, name)?;
+    match new_schema(alloc, columns) {
+        Ok(schema) => Ok(Typed::Create { name, schema }),
+        Err(refusal) => {
+            drop(name);
+            Err(refusal)
+        }
+    }
+}
+
+// The columns of CREATE TABLE as a schema.
+fn new_schema(alloc: Global, columns: &[Column]) -> Result<Schema, CheckRefusal>
+    ensures { Gives result (new_schema columns.now) }
+{
     within(MAX_COLUMNS, columns.len())?;
     let columns = new_columns(alloc, columns)?;
-    Ok(Typed::Create {
-        name: name.copy()?,
-        schema: Schema::of(columns),
-    })
+    Ok(Schema::of(columns))
 }
 
 // INSERT INTO: a table, and tuples of its columns' kinds.
@@ -95,18 +108,30 @@ fn insert<C: Catalog>(
 ) -> Result<Typed, CheckRefusal>
     ensures { Gives result (spec.insert (C.known known.now) name.now rows.now) }
 {
-    rows_agree(known_columns(known, Names::Tables, name)?, rows)?;
-    let name = name.copy()?;
+    tuples_agree(known, name, rows)?;
     let rows = rows_copied(alloc, rows)?;
-    Ok(Typed::Insert { name, rows })
+    match name.copy() {
+        Ok(name) => Ok(Typed::Insert { name, rows }),
+        Err(NoMemory) => {
+            drop(rows);
+            Err(CheckRefusal::NoMemory)
+        }
+    }
 }
 
 // The same of a name and of tuples that are not used again.
 fn insert_owned<C: Catalog>(known: &C, name: Name, rows: Items<Row>) -> Result<Typed, CheckRefusal>
     ensures { Gives result (spec.insert (C.known known.now) name rows) }
 {
-    rows_agree(known_columns(known, Names::Tables, &name)?, rows.as_slice())?;
-    Ok(Typed::Insert { name, rows })
+    tuples_agree(known, &name, rows.as_slice()).and(Ok(Typed::Insert { name, rows }))
+}
+
+// The first fault of a table and of tuples for it.
+fn tuples_agree<C: Catalog>(known: &C, name: &Name, rows: &[Row]) -> Result<(), CheckRefusal>
+    ensures { Gives result (tuples_agree (C.known known.now) name.now rows.now) }
+{
+    let columns = known_columns(known, Names::Tables, name)?;
+    rows_agree(columns, rows)
 }
 
 // DELETE FROM: a table, and a condition on its columns.
@@ -118,10 +143,40 @@ fn delete<C: Catalog>(
 ) -> Result<Typed, CheckRefusal>
     ensures { Gives result (spec.delete (C.known known.now) name.now cond.now) }
 {
-    let items = [Item::of(name, known_columns(known, Names::Tables, name)?)];
-    let name = name.copy()?;
-    let cond = where_of(alloc, &Sight::of(&items), cond)?;
+    let columns = known_columns(known, Names::Tables, name)?;
+    let (name, cond) = named_where(alloc, name, columns, cond)?;
     Ok(Typed::Delete { name, cond })
+}
+
+// The name of a table, and a condition on its columns.
+fn named_where(
+    alloc: Global,
+    name: &Name,
+    columns: &Schema,
+    cond: &Option<CondText>,
+) -> Result<(Name, Cond), CheckRefusal>
+    ensures { Gives result (named_where name.now columns.now cond.now) }
+{
+    let cond = where_of(alloc, &Sight::of(&[Item::of(name, columns)]), cond)?;
+    match name.copy() {
+        Ok(name) => Ok((name, cond)),
+        Err(NoMemory) => {
+            drop(cond);
+            Err(CheckRefusal::NoMemory)
+        }
+    }
+}
+
+// Assignments to the columns of one table.
+fn table_sets(
+    alloc: Global,
+    name: &Name,
+    columns: &Schema,
+    sets: &[SetText],
+) -> Result<Items<Assign>, CheckRefusal>
+    ensures { Gives result (spec.sets_of (spec.sees_table name.now columns.now) sets.now) }
+{
+    sets_of(alloc, &Sight::of(&[Item::of(name, columns)]), sets)
 }
 
 // UPDATE: a table, assignments to its columns, and a condition on them.
@@ -134,20 +189,43 @@ fn update<C: Catalog>(
 ) -> Result<Typed, CheckRefusal>
     ensures { Gives result (spec.update (C.known known.now) name.now sets.now cond.now) }
 {
-    let items = [Item::of(name, known_columns(known, Names::Tables, name)?)];
-    let sight = Sight::of(&items);
-    let name = name.copy()?;
-    let sets = sets_of(alloc, &sight, sets)?;
-    let cond = where_of(alloc, &sight, cond)?;
-    Ok(Typed::Update { name, sets, cond })
+    let columns = known_columns(known, Names::Tables, name)?;
+    let sets = table_sets(alloc, name, columns, sets)?;
+    match named_where(alloc, name, columns, cond) {
+        Ok((name, cond)) => Ok(Typed::Update { name, sets, cond }),
+        Err(refusal) => {
+            drop(sets);
+            Err(refusal)
+        }
+    }
 }
 
 // DROP: a name.
 fn drop_name<C: Catalog>(known: &C, name: &Name) -> Result<Typed, CheckRefusal>
     ensures { Gives result (spec.drop_name (C.known known.now) name.now) }
 {
-    known_columns(known, Names::All, name)?;
-    Ok(Typed::Drop { name: name.copy()? })
+    let name = known_name(known, Names::All, name)?;
+    Ok(Typed::Drop { name })
+}
+
+// A new name, and a query over the names that may be asked.
+fn named_query<C: Catalog>(
+    alloc: Global,
+    known: &C,
+    names: Names,
+    name: &Name,
+    query: &QueryText,
+) -> Result<(Name, Query), CheckRefusal>
+    ensures { Gives result (named_query (C.known known.now) (schemas_in names (C.known known.now)) name.now query.now) }
+{
+    let name = fresh_name(known, name)?;
+    match query_of(alloc, known, names, query) {
+        Ok(query) => Ok((name, query)),
+        Err(refusal) => {
+            drop(name);
+            Err(refusal)
+        }
+    }
 }
 
 // KEEP: a new name, and a query.
@@ -159,9 +237,7 @@ fn keep<C: Catalog>(
 ) -> Result<Typed, CheckRefusal>
     ensures { Gives result (spec.keep (C.known known.now) name.now query.now) }
 {
-    new_name(known, name)?;
-    let name = name.copy()?;
-    let query = query_of(alloc, known, Names::All, query)?;
+    let (name, query) = named_query(alloc, known, Names::All, name, query)?;
     Ok(Typed::Keep { name, query })
 }
 
@@ -169,11 +245,8 @@ fn keep<C: Catalog>(
 fn print_name<C: Catalog>(known: &C, name: &Name, day: RefDay) -> Result<Typed, CheckRefusal>
     ensures { Gives result (spec.print_name (C.known known.now) name.now day) }
 {
-    known_columns(known, Names::All, name)?;
-    Ok(Typed::PrintName {
-        name: name.copy()?,
-        day,
-    })
+    let name = known_name(known, Names::All, name)?;
+    Ok(Typed::PrintName { name, day })
 }
 
 // PRINT of a query.
@@ -193,33 +266,42 @@ fn print_query<C: Catalog>(
 fn save<C: Catalog>(known: &C, name: &Name, file: &Text) -> Result<Typed, CheckRefusal>
     ensures { Gives result (spec.save (C.known known.now) name.now file.now) }
 {
-    known_columns(known, Names::All, name)?;
-    Ok(Typed::Save {
-        name: name.copy()?,
-        file: file.copy()?,
-    })
+    let name = known_name(known, Names::All, name)?;
+    match file.copy() {
+        Ok(file) => Ok(Typed::Save { name, file }),
+        Err(NoMemory) => {
+            drop(name);
+            Err(CheckRefusal::NoMemory)
+        }
+    }
 }
 
 // OPEN: a new name.
 fn open_file<C: Catalog>(known: &C, name: &Name, file: &Text) -> Result<Typed, CheckRefusal>
     ensures { Gives result (spec.open_file (C.known known.now) name.now file.now) }
 {
-    new_name(known, name)?;
-    Ok(Typed::OpenFile {
-        name: name.copy()?,
-        file: file.copy()?,
-    })
+    let name = fresh_name(known, name)?;
+    match file.copy() {
+        Ok(file) => Ok(Typed::OpenFile { name, file }),
+        Err(NoMemory) => {
+            drop(name);
+            Err(CheckRefusal::NoMemory)
+        }
+    }
 }
 
 // IMPORT INTO: a table.
 fn import_file<C: Catalog>(known: &C, name: &Name, file: &Text) -> Result<Typed, CheckRefusal>
     ensures { Gives result (spec.import_file (C.known known.now) name.now file.now) }
 {
-    known_columns(known, Names::Tables, name)?;
-    Ok(Typed::ImportFile {
-        name: name.copy()?,
-        file: file.copy()?,
-    })
+    let name = known_name(known, Names::Tables, name)?;
+    match file.copy() {
+        Ok(file) => Ok(Typed::ImportFile { name, file }),
+        Err(NoMemory) => {
+            drop(name);
+            Err(CheckRefusal::NoMemory)
+        }
+    }
 }
 
 // EXPLAIN: a query.
@@ -234,11 +316,8 @@ fn explain<C: Catalog>(alloc: Global, known: &C, query: &QueryText) -> Result<Ty
 fn valid<C: Catalog>(known: &C, name: &Name, day: RefDay) -> Result<Typed, CheckRefusal>
     ensures { Gives result (spec.valid (C.known known.now) name.now day) }
 {
-    known_columns(known, Names::All, name)?;
-    Ok(Typed::Valid {
-        name: name.copy()?,
-        day,
-    })
+    let name = known_name(known, Names::All, name)?;
+    Ok(Typed::Valid { name, day })
 }
 
 // LIVE: a new name, and a query over tables.
@@ -250,8 +329,6 @@ fn live<C: Catalog>(
 ) -> Result<Typed, CheckRefusal>
     ensures { Gives result (spec.live (C.known known.now) name.now query.now) }
 {
-    new_name(known, name)?;
-    let name = name.copy()?;
-    let query = query_of(alloc, known, Names::Tables, query)?;
+    let (name, query) = named_query(alloc, known, Names::Tables, name, query)?;
     Ok(Typed::Live { name, query })
 }

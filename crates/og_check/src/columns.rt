@@ -23,14 +23,14 @@ pub fn found(
 ) -> Result<(usize, Kind), CheckRefusal>
     ensures { Gives result (spec.found sight.now table.now name.now) }
 {
-    match candidates(sight, table, name)? {
-        Hits::One { place, kind } => Ok((place, kind)),
-        Hits::Nothing => Err(CheckRefusal::NoSuchColumn {
-            name: written(alloc, table, name)?,
-        }),
-        Hits::More => Err(CheckRefusal::AmbiguousColumn {
-            name: written(alloc, table, name)?,
-        }),
+    let hits = candidates(sight, table, name)?;
+    if let Hits::One { place, kind } = hits {
+        return Ok((place, kind));
+    }
+    let name = written(alloc, table, name)?;
+    match hits {
+        Hits::More => Err(CheckRefusal::AmbiguousColumn { name }),
+        _ => Err(CheckRefusal::NoSuchColumn { name }),
     }
 }
 
@@ -90,7 +90,8 @@ fn among(
     Ok((hits, place))
 }
 
-// With those of the item, whose first column has that place, and the place after its last column.
+// With those of the item, whose first column has that place, and the place after its last column. A
+// row that has no such place has no memory either.
 fn item_hits(
     hits: Hits,
     table: &Option<Name>,
@@ -101,22 +102,13 @@ fn item_hits(
     ensures { Gives result (pure (with_found hits (if looks_at table.now item.now then spec.named name.now place item.now.1 else []), place + length item.now.1)) }
 {
     let columns = item.columns();
-    let end = end_of(place, columns)?;
+    let Some(end) = place.checked_add(columns.len()) else {
+        return Err(CheckRefusal::NoMemory);
+    };
     if looks_at(table, item) {
         Ok((more_named(hits, name, place, columns), end))
     } else {
         Ok((hits, end))
-    }
-}
-
-// The place after the columns, of which the first has that place. A row that has no such place has
-// no memory either.
-fn end_of(place: usize, columns: &Schema) -> Result<usize, CheckRefusal>
-    ensures { Gives result (pure (place + length columns.now)) }
-{
-    match place.checked_add(columns.len()) {
-        Some(end) => Ok(end),
-        None => Err(CheckRefusal::NoMemory),
     }
 }
 

@@ -3,7 +3,9 @@ ghost use Rattle.std.specs.Prelude.{◌≡◌, ◌∷◌, [], map};
 ghost use Rattle.og_value.specs.declared.kind.Kind.TheVariants as kinds;
 ghost use Rattle.og_check.specs.Expressions as spec;
 ghost use Rattle.og_check.specs.Expressions.{cond_of};
-ghost use Rattle.og_check.specs.Results.{Gives};
+ghost use Rattle.og_check.specs.Fronts.{with_front};
+ghost use Rattle.og_check.specs.Operands.{operands_of};
+ghost use Rattle.og_check.specs.Results.{Gives, wrote};
 ghost use Rattle.og_check.specs.Steps.{in_order};
 
 use crate::expressions::expr_of;
@@ -51,6 +53,25 @@ fn parts_of(
     Ok(conds)
 }
 
+// Two operands and their kinds, from the left.
+fn operands_of(
+    alloc: Global,
+    sight: &Sight,
+    left: &ExprText,
+    right: &ExprText,
+) -> Result<((Expr, Kind), (Expr, Kind)), CheckRefusal>
+    ensures { Gives result (operands_of sight.now left.now right.now) }
+{
+    let left = expr_of(alloc, sight, left)?;
+    match expr_of(alloc, sight, right) {
+        Ok(right) => Ok((left, right)),
+        Err(refusal) => {
+            drop(left);
+            Err(refusal)
+        }
+    }
+}
+
 // A comparison of two of one kind, other than periods.
 fn compare_of(
     alloc: Global,
@@ -61,10 +82,8 @@ fn compare_of(
 ) -> Result<Cond, CheckRefusal>
     ensures { Gives result (spec.compare_of sight.now op left.now right.now) }
 {
-    let (left, first) = expr_of(alloc, sight, left)?;
-    let (right, second) = expr_of(alloc, sight, right)?;
-    comparable(first, second)?;
-    Ok(Cond::Compare { op, left, right })
+    let ((left, first), (right, second)) = operands_of(alloc, sight, left, right)?;
+    comparable(first, second).and(Ok(Cond::Compare { op, left, right }))
 }
 
 // The fault of two operands of a comparison.
@@ -90,11 +109,10 @@ fn relate_of(
 ) -> Result<Cond, CheckRefusal>
     ensures { Gives result (spec.relate_of sight.now pred left.now right.now) }
 {
-    let (left, first) = expr_of(alloc, sight, left)?;
-    let (right, second) = expr_of(alloc, sight, right)?;
-    same_kind(first, Kind::Period)?;
-    same_kind(second, Kind::Period)?;
-    Ok(Cond::Relate { pred, left, right })
+    let ((left, first), (right, second)) = operands_of(alloc, sight, left, right)?;
+    same_kind(first, Kind::Period)
+        .and(same_kind(second, Kind::Period))
+        .and(Ok(Cond::Relate { pred, left, right }))
 }
 
 // The test of a period for days.
@@ -102,8 +120,7 @@ fn empty_of(alloc: Global, sight: &Sight, period: &ExprText) -> Result<Cond, Che
     ensures { Gives result (spec.empty_of sight.now period.now) }
 {
     let (period, kind) = expr_of(alloc, sight, period)?;
-    same_kind(kind, Kind::Period)?;
-    Ok(Cond::Empty(period))
+    same_kind(kind, Kind::Period).and(Ok(Cond::Empty(period)))
 }
 
 // The test of a period for a day.
@@ -115,26 +132,25 @@ fn contains_of(
 ) -> Result<Cond, CheckRefusal>
     ensures { Gives result (spec.contains_of sight.now period.now day.now) }
 {
-    let (period, first) = expr_of(alloc, sight, period)?;
-    let (day, second) = expr_of(alloc, sight, day)?;
-    same_kind(first, Kind::Period)?;
-    same_kind(second, Kind::Date)?;
-    Ok(Cond::Contains(period, day))
+    let ((period, first), (day, second)) = operands_of(alloc, sight, period, day)?;
+    same_kind(first, Kind::Period)
+        .and(same_kind(second, Kind::Date))
+        .and(Ok(Cond::Contains(period, day)))
 }
 
-/// The condition as a list of one, and no list where there is none.
-pub fn conds_of(
+/// Adds the condition, where there is one.
+pub fn add_cond(
     alloc: Global,
     sight: &Sight,
     cond: &Option<CondText>,
-) -> Result<Items<Cond>, CheckRefusal>
-    ensures { Gives result (spec.conds_of sight.now cond.now) }
+    conds: &mut Items<Cond>,
+) -> Result<(), CheckRefusal>
+    ensures { Gives (wrote conds.new result) (with_front conds.old (spec.conds_of sight.now cond.now)) }
 {
-    let mut conds = Items::new(alloc);
     if let Some(cond) = cond {
         conds.push(cond_of(alloc, sight, cond)?)?;
     }
-    Ok(conds)
+    Ok(())
 }
 
 /// The condition, and one that is true where there is none.

@@ -1,24 +1,25 @@
 //! The checks of a SELECT.
 ghost use Rattle.std.specs.Prelude.{◌≡◌, ◌++◌, ◌∷◌, [], codes, length};
 ghost use Rattle.std.specs.Fmt.{decimal};
-ghost use Rattle.og_syntax.specs.declared.tree.ExprText.{out-ExprText};
 ghost use Rattle.og_check.specs.Cores as spec;
-ghost use Rattle.og_check.specs.Fronts.{parted, with_fronts};
+ghost use Rattle.og_check.specs.Cores.{star_from};
+ghost use Rattle.og_check.specs.Fronts.{parted, with_fronts, with_pair};
 ghost use Rattle.og_check.specs.Names.{schemas_in};
-ghost use Rattle.og_check.specs.Results.{Gives};
-ghost use Rattle.og_check.specs.Shown.{shown};
+ghost use Rattle.og_check.specs.Results.{Gives, wrote};
+ghost use Rattle.og_check.specs.Selects.{after_from, core_in, shown_of};
+ghost use Rattle.og_check.specs.Shown.{from_in, shown, shown_in};
 ghost use Rattle.og_check.specs.Sight.{joined};
 ghost use Rattle.og_check.specs.Steps.{in_order, pure};
 
-use crate::conditions::conds_of;
+use crate::conditions::add_cond;
 use crate::expressions::expr_of;
 use crate::kinds::within;
 use crate::limits::MAX_TABLES;
 use crate::names::Names;
 use crate::refusal::CheckRefusal;
 use crate::sight::{Item, Sight};
-use crate::tables::{from_of, semis_of};
-use og_query::{Cond, Core, Expr};
+use crate::tables::{Joined, from_of, semis_of};
+use og_query::{Cond, Core, Expr, Semi};
 use og_syntax::{CoreText, ExprText, ItemText, ItemsText};
 use og_value::{Catalog, Column, MAX_COLUMNS, Name, NameRefusal, Schema};
 use sqlite_items::Items;
@@ -31,6 +32,14 @@ pub struct Shown {
     columns: Vec<Column>,
 }
 
+/// What follows FROM in a SELECT: EXISTS and NOT EXISTS, the items, and their schema.
+#[derive(Drop)]
+pub struct Selected {
+    semis: Items<Semi>,
+    exprs: Items<Expr>,
+    schema: Schema,
+}
+
 /// A SELECT over the names that may be asked.
 pub fn core_of<C: Catalog>(
     alloc: Global,
@@ -41,30 +50,70 @@ pub fn core_of<C: Catalog>(
     ensures { Gives result (spec.core_of (schemas_in names (C.known known.now)) core.now) }
 {
     within(MAX_TABLES, core.tables.len())?;
-    let from = from_of(alloc, known, names, core.tables.as_slice())?;
-    let items = from.items;
-    let mut conds = from.conds;
-    let more = conds_of(alloc, &Sight::of(items.as_slice()), &core.cond)?;
-    let semis = semis_of(alloc, known, names, items.as_slice(), core.semis.as_slice())?;
-    let shown = items_of(alloc, items.as_slice(), &core.items)?;
-    let schema = schema_of(shown.columns)?;
-    conds.append(more)?;
-    Ok(Core {
-        tables: from.tables,
-        cond: Cond::And(conds),
-        semis,
-        items: shown.exprs,
-        schema,
-    })
+    let mut from = from_of(alloc, known, names, core.tables.as_slice())?;
+    match selected_of(alloc, known, names, core, &mut from) {
+        Ok(selected) => Ok(Core {
+            tables: from.tables,
+            cond: Cond::And(from.conds),
+            semis: selected.semis,
+            items: selected.exprs,
+            schema: selected.schema,
+        }),
+        Err(refusal) => {
+            drop(from);
+            Err(refusal)
+        }
+    }
 }
 
-/// The schema of the columns. `CountsDiffer` exactly where there is none, `TooMany` where there are
-/// more than `MAX_COLUMNS`.
-pub fn schema_of(columns: Vec<Column>) -> Result<Schema, CheckRefusal>
-    ensures { Gives result (spec.schema_of columns.items) }
+// What follows FROM, whose conditions get that of WHERE.
+fn selected_of<C: Catalog>(
+    alloc: Global,
+    known: &C,
+    names: Names,
+    core: &CoreText,
+    from: &mut Joined,
+) -> Result<Selected, CheckRefusal>
+    ensures { Gives (core_in from.new result) (after_from (schemas_in names (C.known known.now)) core.now (from_in from.old)) }
 {
-    within(MAX_COLUMNS, columns.len())?;
-    Ok(Schema::of(columns))
+    add_cond(
+        alloc,
+        &Sight::of(from.items.as_slice()),
+        &core.cond,
+        &mut from.conds,
+    )?;
+    let items = from.items.as_slice();
+    let semis = semis_of(alloc, known, names, items, core.semis.as_slice())?;
+    match shown_of(alloc, items, &core.items) {
+        Ok((exprs, schema)) => Ok(Selected {
+            semis,
+            exprs,
+            schema,
+        }),
+        Err(refusal) => {
+            drop(semis);
+            Err(refusal)
+        }
+    }
+}
+
+// The items of SELECT, and their schema. `CountsDiffer` exactly where there is none, `TooMany` where
+// there are more than `MAX_COLUMNS`.
+fn shown_of(
+    alloc: Global,
+    items: &[Item],
+    list: &ItemsText,
+) -> Result<(Items<Expr>, Schema), CheckRefusal>
+    ensures { Gives result (shown_of items.now list.now) }
+{
+    let shown = items_of(alloc, items, list)?;
+    match within(MAX_COLUMNS, shown.columns.len()) {
+        Ok(()) => Ok((shown.exprs, Schema::of(shown.columns))),
+        Err(refusal) => {
+            drop(shown);
+            Err(refusal)
+        }
+    }
 }
 
 // The items of SELECT, of which * gives all columns.
@@ -79,84 +128,75 @@ fn items_of(alloc: Global, items: &[Item], list: &ItemsText) -> Result<Shown, Ch
 
 // Each column of the items.
 fn star_of(alloc: Global, items: &[Item]) -> Result<Shown, CheckRefusal>
-    ensures { Gives (shown result) (parted (pure (spec.star_from 0 (joined items.now)))) }
+    ensures { Gives (shown result) (parted (pure (star_from 0 (joined items.now)))) }
 {
     let mut all = Shown {
         exprs: Items::new(alloc),
         columns: Vec::new(alloc),
     };
     'items: for item in items {
-        all = with_columns(all, item.columns())?;
+        add_columns(item.columns(), &mut all)?;
     }
     Ok(all)
 }
 
-// With each of the columns, of which the first has the place after those that are shown.
-fn with_columns(before: Shown, columns: &Schema) -> Result<Shown, CheckRefusal>
-    ensures { Gives (shown result) (with_fronts before.exprs before.columns.items (pure (spec.star_from (length before.exprs) columns.now))) }
+// Adds each of the columns, of which the first has the place after those that are shown.
+fn add_columns(columns: &Schema, all: &mut Shown) -> Result<(), CheckRefusal>
+    ensures { Gives (wrote (shown_in all.new) result) (with_fronts all.old.exprs all.old.columns.items (pure (star_from (length all.old.exprs) columns.now))) }
 {
-    let mut all = before;
     'columns: for i in 0..columns.len() {
-        all = with_column(all, columns.column(i))?;
+        add_column(columns.column(i), all)?;
     }
-    Ok(all)
+    Ok(())
 }
 
-// With the column, which has the place after those that are shown.
-fn with_column(before: Shown, column: &Column) -> Result<Shown, CheckRefusal>
-    ensures { Gives (shown result) (with_fronts before.exprs before.columns.items (pure (spec.star_from (length before.exprs) (column.now ∷ [])))) }
+// Adds the column, which has the place after those that are shown.
+fn add_column(column: &Column, all: &mut Shown) -> Result<(), CheckRefusal>
+    ensures { Gives (wrote (shown_in all.new) result) (with_fronts all.old.exprs all.old.columns.items (pure (star_from (length all.old.exprs) (column.now ∷ [])))) }
 {
-    let mut all = before;
     let place = all.exprs.len();
     all.exprs.push(Expr::Column(place))?;
     all.columns.push(column.copy()?)?;
-    Ok(all)
+    Ok(())
 }
 
 // The items of a list.
 fn list_of(alloc: Global, sight: &Sight, list: &[ItemText]) -> Result<Shown, CheckRefusal>
     ensures { Gives (shown result) (parted (in_order (spec.items_from sight.now 1 list.now))) }
 {
-    let mut exprs = Items::new(alloc);
-    let mut columns = Vec::new(alloc);
+    let mut all = Shown {
+        exprs: Items::new(alloc),
+        columns: Vec::new(alloc),
+    };
     'each: for i in 0..list.len() {
-        let (expr, column) = item_of(alloc, sight, i + 1, &list[i])?;
-        exprs.push(expr)?;
-        columns.push(column)?;
+        add_item(alloc, sight, i + 1, &list[i], &mut all)?;
     }
-    Ok(Shown { exprs, columns })
+    Ok(all)
 }
 
-// The item with that number, and its column.
-fn item_of(
+// Adds the item with that number, and its column.
+fn add_item(
     alloc: Global,
     sight: &Sight,
     number: usize,
     item: &ItemText,
-) -> Result<(Expr, Column), CheckRefusal>
-    ensures { Gives result (spec.item_of sight.now number item.now) }
+    all: &mut Shown,
+) -> Result<(), CheckRefusal>
+    ensures { Gives (wrote (shown_in all.new) result) (with_pair all.old.exprs all.old.columns.items (spec.item_of sight.now number item.now)) }
 {
     let (expr, kind) = expr_of(alloc, sight, &item.expr)?;
+    all.exprs.push(expr)?;
     let name = item_name(alloc, number, item)?;
-    Ok((expr, Column { name, kind }))
+    all.columns.push(Column { name, kind })?;
+    Ok(())
 }
 
-// The name of the item's column.
+// The name of the item's column: the one after AS, or that of a column, or c and the number.
 fn item_name(alloc: Global, number: usize, item: &ItemText) -> Result<Name, CheckRefusal>
     ensures { Gives result (pure (spec.item_name number item.now)) }
 {
-    match &item.name {
-        Some(name) => Ok(name.copy()?),
-        None => own_name(alloc, number, &item.expr),
-    }
-}
-
-// The name of a column, or c and the number for another expression.
-fn own_name(alloc: Global, number: usize, expr: &ExprText) -> Result<Name, CheckRefusal>
-    ensures { Gives result (pure (spec.own_name number (out-ExprText expr.now))) }
-{
-    match expr {
-        ExprText::Column { table: _, name } => Ok(name.copy()?),
+    match (&item.name, &item.expr) {
+        (Some(name), _) | (None, ExprText::Column { name, .. }) => Ok(name.copy()?),
         _ => numbered(alloc, number),
     }
 }

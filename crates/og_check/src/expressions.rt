@@ -70,8 +70,7 @@ fn args_of(
 fn call_of(func: Func, args: Items<Expr>, kinds: &Items<Kind>) -> Result<(Expr, Kind), CheckRefusal>
     ensures { Gives result (spec.call_of func args kinds.now) }
 {
-    agree(kinds.as_slice(), wanted(func))?;
-    Ok((Expr::Call { func, args }, given(func)))
+    agree(kinds.as_slice(), wanted(func)).and(Ok((Expr::Call { func, args }, given(func))))
 }
 
 // The kinds that a function wants.

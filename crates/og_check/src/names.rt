@@ -2,9 +2,8 @@
 ghost use Rattle.std.specs.Prelude.{◌≡◌};
 ghost use Rattle.std.specs.Option.{option_copied};
 ghost use Rattle.og_check.specs.Cores as spec;
-ghost use Rattle.og_check.specs.Names.{schemas_in};
+ghost use Rattle.og_check.specs.Names.{fresh_name, known_name, schemas_in};
 ghost use Rattle.og_check.specs.Results.{Gives, lent};
-ghost use Rattle.og_check.specs.Statements as statements;
 
 use crate::refusal::CheckRefusal;
 use og_value::{Catalog, Name, Schema, What};
@@ -45,13 +44,25 @@ pub fn known_columns<'a, C: Catalog>(
     }
 }
 
-/// `NameTaken` exactly where the name is known.
-pub fn new_name<C: Catalog>(known: &C, name: &Name) -> Result<(), CheckRefusal>
-    ensures { Gives result (statements.new_name (C.known known.now) name.now) }
+/// The name. `NoSuchName` exactly where it may not be asked.
+pub fn known_name<C: Catalog>(known: &C, names: Names, name: &Name) -> Result<Name, CheckRefusal>
+    ensures { Gives result (known_name name.now (schemas_in names (C.known known.now) name.now)) }
 {
+    let copy = name.copy()?;
+    match columns_in(known, names, name) {
+        Some(_) => Ok(copy),
+        None => Err(CheckRefusal::NoSuchName { name: copy }),
+    }
+}
+
+/// The name. `NameTaken` exactly where it is known.
+pub fn fresh_name<C: Catalog>(known: &C, name: &Name) -> Result<Name, CheckRefusal>
+    ensures { Gives result (fresh_name (C.known known.now) name.now) }
+{
+    let copy = name.copy()?;
     match known.what(name) {
-        Some(_) => Err(CheckRefusal::NameTaken { name: name.copy()? }),
-        None => Ok(()),
+        Some(_) => Err(CheckRefusal::NameTaken { name: copy }),
+        None => Ok(copy),
     }
 }
 

@@ -27,8 +27,13 @@ pub fn query_of<C: Catalog>(
     ensures { Gives result (spec.query_of (schemas_in names (C.known known.now)) query.now) }
 {
     let first = core_of(alloc, known, names, &query.first)?;
-    let rest = rests_of(alloc, known, names, &first, query.rest.as_slice())?;
-    Ok(Query { first, rest })
+    match rests_of(alloc, known, names, &first, query.rest.as_slice()) {
+        Ok(rest) => Ok(Query { first, rest }),
+        Err(refusal) => {
+            drop(first);
+            Err(refusal)
+        }
+    }
 }
 
 // The further SELECTs.
@@ -59,8 +64,7 @@ fn rest_of<C: Catalog>(
     ensures { Gives result (spec.rest_of (schemas_in names (C.known known.now)) first.now rest.now) }
 {
     let core = core_of(alloc, known, names, &rest.core)?;
-    columns_agree(&core.schema, &first.schema)?;
-    Ok(Rest { op: rest.op, core })
+    columns_agree(&core.schema, &first.schema).and(Ok(Rest { op: rest.op, core }))
 }
 
 // The first fault of the kinds of the columns that were found, where others are wanted.

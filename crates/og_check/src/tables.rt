@@ -4,11 +4,11 @@ ghost use Rattle.std.specs.List.{list_any};
 ghost use Rattle.std.specs.Str.{bytes_eq};
 ghost use Rattle.og_check.specs.Cores as spec;
 ghost use Rattle.og_check.specs.Names.{schemas_in};
-ghost use Rattle.og_check.specs.Results.{Gives};
+ghost use Rattle.og_check.specs.Results.{Gives, wrote};
 ghost use Rattle.og_check.specs.Shown.{from_given, from_in};
 ghost use Rattle.og_check.specs.Steps.{in_order};
 
-use crate::conditions::{conds_of, where_of};
+use crate::conditions::{add_cond, where_of};
 use crate::names::{Names, alias_of, known_columns};
 use crate::refusal::CheckRefusal;
 use crate::sight::{Item, Sight};
@@ -42,30 +42,33 @@ pub fn from_of<'a, C: Catalog>(
         conds: Items::new(alloc),
     };
     'each: for table in tables {
-        from = with_table(alloc, known, names, from, table)?;
+        add_table(alloc, known, names, table, &mut from)?;
     }
     Ok(from)
 }
 
-// With one more table.
-fn with_table<'a, C: Catalog>(
+// Adds one more table.
+fn add_table<'a, C: Catalog>(
     alloc: Global,
     known: &'a C,
     names: Names,
-    from: Joined<'a>,
     table: &'a FromText,
-) -> Result<Joined<'a>, CheckRefusal>
-    ensures { Gives (from_given result) (spec.with_table (schemas_in names (C.known known.now)) (from_in from.entry) table.now) }
+    from: &mut Joined<'a>,
+) -> Result<(), CheckRefusal>
+    ensures { Gives (wrote (from_in from.new) result) (spec.with_table (schemas_in names (C.known known.now)) (from_in from.old) table.now) }
 {
-    let mut from = from;
     let columns = known_columns(known, names, &table.name)?;
     let alias = alias_of(&table.name, &table.alias);
     unused(alias, from.items.as_slice())?;
     from.items.push(Item::of(alias, columns))?;
-    let conds = conds_of(alloc, &Sight::of(from.items.as_slice()), &table.on)?;
-    from.conds.append(conds)?;
+    add_cond(
+        alloc,
+        &Sight::of(from.items.as_slice()),
+        &table.on,
+        &mut from.conds,
+    )?;
     from.tables.push(table_of(&table.name, columns)?)?;
-    Ok(from)
+    Ok(())
 }
 
 // The table of a name and its columns.
@@ -128,10 +131,15 @@ fn semi_of<C: Catalog>(
     unused(alias, items)?;
     let table = table_of(&semi.name, columns)?;
     let sub = [Item::of(alias, columns)];
-    let cond = where_of(alloc, &Sight::with_sub(items, &sub), &semi.cond)?;
-    Ok(Semi {
-        positive: semi.positive,
-        table,
-        cond,
-    })
+    match where_of(alloc, &Sight::with_sub(items, &sub), &semi.cond) {
+        Ok(cond) => Ok(Semi {
+            positive: semi.positive,
+            table,
+            cond,
+        }),
+        Err(refusal) => {
+            drop(table);
+            Err(refusal)
+        }
+    }
 }

@@ -11,11 +11,11 @@ each-init c = ap (λ before. in_turn (with_set c.args.sight.now) before c.args.s
 pub returns : goal.returns
 returns c = sym c.each.invariant ∙ turn_done (with_set c.args.sight.now) c.each.typed _ c.each.set-index c.each-test.false
 
-pub returns-in_err-typed : goal.returns-in_err-typed
-returns-in_err-typed c =
+pub returns-in_err-add_set : goal.returns-in_err-add_set
+returns-in_err-add_set c =
     let q = err_from_is_err_and c.from_residual.result c.from_residual.ensures.1 in
     rw (q.1, q.2)
-    (λ k. sym c.each.invariant ∙ turn_stop (with_set c.args.sight.now) c.each.typed _ c.each.set-index c.set-item.result _ c.each-test.true c.set-item.is (c.in_err-typed.ensures k))
+    (λ k. sym c.each.invariant ∙ turn_stop (with_set c.args.sight.now) c.each.typed _ c.each.set-index c.set-item.result _ c.each-test.true c.set-item.is (c.in_err-add_set.ensures k))
 
 pub each-preserved : goal.each-preserved
-each-preserved c = turn_next (with_set c.args.sight.now) c.each.typed _ c.each.set-index c.set-item.result _ c.each-test.true c.set-item.is c.in_ok-typed.ensures ∙ c.each.invariant
+each-preserved c = turn_next (with_set c.args.sight.now) c.each.typed _ c.each.set-index c.set-item.result _ c.each-test.true c.set-item.is c.in_ok-add_set.ensures ∙ c.each.invariant

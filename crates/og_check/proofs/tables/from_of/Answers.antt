@@ -9,10 +9,10 @@ use Rattle.og_check.proofs.tables.from_of.Goals as goal
 pub returns : goal.returns
 returns g c = sym c.each.invariant ∙ turn_done (with_table (schemas_in c.args.names (g.C.Catalog.known c.args.known.now))) (from_in c.each.from) _ c.each.table-index c.each-test.false
 
-pub returns-in_err-from : goal.returns-in_err-from
-returns-in_err-from g c =
+pub returns-in_err-add_table : goal.returns-in_err-add_table
+returns-in_err-add_table g c =
     let q = err_from_is_err_and c.from_residual.result c.from_residual.ensures.1 in
-    rw (q.1, q.2) (λ k. sym c.each.invariant ∙ turn_stop (with_table (schemas_in c.args.names (g.C.Catalog.known c.args.known.now))) (from_in c.each.from) _ c.each.table-index c.table-item.result _ c.each-test.true c.table-item.is (c.in_err-from.ensures k))
+    rw (q.1, q.2) (λ k. sym c.each.invariant ∙ turn_stop (with_table (schemas_in c.args.names (g.C.Catalog.known c.args.known.now))) (from_in c.each.from) _ c.each.table-index c.table-item.result _ c.each-test.true c.table-item.is (c.in_err-add_table.ensures k))
 
 pub each-preserved : goal.each-preserved
-each-preserved g c = turn_next (with_table (schemas_in c.args.names (g.C.Catalog.known c.args.known.now))) (from_in c.each.from) _ c.each.table-index c.table-item.result _ c.each-test.true c.table-item.is c.in_ok-from.ensures ∙ c.each.invariant
+each-preserved g c = turn_next (with_table (schemas_in c.args.names (g.C.Catalog.known c.args.known.now))) (from_in c.each.from) _ c.each.table-index c.table-item.result _ c.each-test.true c.table-item.is c.in_ok-add_table.ensures ∙ c.each.invariant
