@@ -16,47 +16,39 @@ use og_value::Kind;
 use std::alloc::Global;
 use thiserror::Error;
 
-/// What is wrong with the words, with the script or with a statement (docs/LANGUAGE.md, "Faults").
-#[derive(Debug, Drop, Error)]
+/// What is wrong with the words, with the script or with a statement (docs/LANGUAGE.md, "Faults"). Its
+/// text is its `line`.
+#[derive(Debug, Drop)]
 pub enum Fault {
     /// The words are no command.
-    #[error("the words are no command")]
     Words,
     /// The source has more bytes than a script may have.
-    #[error("the source is too long")]
     SourceTooLong,
     /// No token begins at that place, counted in bytes from 0.
-    #[error("no token at {offset}")]
     BadByte {
         offset: usize,
     },
     /// The text that begins at that place does not close.
-    #[error("open text at {offset}")]
     OpenText {
         offset: usize,
     },
     /// The number that begins at that place is outside 64 bits.
-    #[error("number out of range at {offset}")]
     NumberRange {
         offset: usize,
     },
     /// The statement with that number, counted from 1, is none that runs.
-    #[error("statement {statement} is no statement that runs")]
     Syntax {
         statement: usize,
     },
     /// The statement with that number is nested too deep.
-    #[error("statement {statement} is too deep")]
     TooDeep {
         statement: usize,
     },
     /// A quoted text of the statement with that number is not of its form.
-    #[error("a literal of statement {statement} is not of its form")]
     Literal {
         statement: usize,
     },
     /// The names, kinds or counts of the statement with that number do not fit.
-    #[error("statement {statement}: {refusal}")]
     Check {
         statement: usize,
         refusal: CheckRefusal,
@@ -70,26 +62,19 @@ impl Fault {
     pub fn line(&self, alloc: Global) -> Result<String, NoMemory>
         ensures { IfOk result (λ line. string_bytes line ≡ fault_line self.now) }
     {
-        let line = match self {
-            Fault::Words => String::from_str(alloc, "fault words\n")?,
-            Fault::SourceTooLong => String::from_str(alloc, "fault source too long\n")?,
-            Fault::BadByte { offset } => format!(in alloc; "fault byte at {offset}\n")?,
-            Fault::OpenText { offset } => format!(in alloc; "fault open text at {offset}\n")?,
-            Fault::NumberRange { offset } => {
-                format!(in alloc; "fault number range at {offset}\n")?
-            }
-            Fault::Syntax { statement } => {
-                format!(in alloc; "fault syntax statement {statement}\n")?
-            }
+        match self {
+            Fault::Words => Ok(String::from_str(alloc, "fault words\n")?),
+            Fault::SourceTooLong => Ok(String::from_str(alloc, "fault source too long\n")?),
+            Fault::BadByte { offset } => numbered(alloc, "fault byte at ", *offset),
+            Fault::OpenText { offset } => numbered(alloc, "fault open text at ", *offset),
+            Fault::NumberRange { offset } => numbered(alloc, "fault number range at ", *offset),
+            Fault::Syntax { statement } => numbered(alloc, "fault syntax statement ", *statement),
             Fault::TooDeep { statement } => {
-                format!(in alloc; "fault too deep statement {statement}\n")?
+                numbered(alloc, "fault too deep statement ", *statement)
             }
-            Fault::Literal { statement } => {
-                format!(in alloc; "fault literal statement {statement}\n")?
-            }
-            Fault::Check { statement, refusal } => check_line(alloc, *statement, refusal)?,
-        };
-        Ok(line)
+            Fault::Literal { statement } => numbered(alloc, "fault literal statement ", *statement),
+            Fault::Check { statement, refusal } => check_line(alloc, *statement, refusal),
+        }
     }
 
     /// The exit status.
@@ -150,6 +135,14 @@ fn check_line(alloc: Global, statement: usize, refusal: &CheckRefusal) -> Result
         CheckRefusal::TooMany { found, limit } => many_line(alloc, statement, *found, *limit),
         CheckRefusal::NoMemory => Ok(String::new(alloc)),
     }
+}
+
+// A line that ends with a number.
+fn numbered(alloc: Global, words: &str, number: usize) -> Result<String, NoMemory>
+    ensures { IfOk result (λ line. string_bytes line ≡ lines.numbered words.now number) }
+{
+    let line = format!(in alloc; "{words}{number}\n")?;
+    Ok(line)
 }
 
 // A line with the number of a statement, and what follows it.
@@ -221,7 +214,7 @@ fn kind_word(kind: Kind) -> &'static str
 #[derive(Debug, Drop, Error)]
 pub enum Stop {
     /// A fault of the words, of the script or of a statement.
-    #[error("{0}")]
+    #[error("the words or the script have a fault")]
     Fault(Fault),
     /// The source failed.
     #[error("the source failed")]
