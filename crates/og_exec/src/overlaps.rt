@@ -3,6 +3,9 @@ ghost use Rattle.std.specs.Prelude.{◌≡◌, ◌≤◌, ◌*◌, ◌++◌, ◌
 ghost use Rattle.std.specs.List.{All};
 ghost use Rattle.og_base.specs.Calendar.{IsRefDay};
 ghost use Rattle.og_par.specs.Limits.{max_workers};
+ghost use Rattle.og_value.specs.declared.term.Pred.TheVariants as preds;
+ghost use Rattle.og_query.specs.declared.condition.Cond.TheVariants as conds;
+ghost use Rattle.og_query.specs.declared.expression.Expr.TheVariants as exprs;
 ghost use Rattle.og_plan.specs.Meaning.{all_hold, do_overlap, matches};
 ghost use Rattle.og_exec.specs.Answers.{rel_of};
 ghost use Rattle.og_exec.specs.Spans.{do_overlap_and};
@@ -114,14 +117,23 @@ fn columns_joined<H: Threads + Sync, G: Gate + Sync>(
     if say_overlap(rest, spans.pair.left, place) {
         return overlap_join(rt, alloc, workers, left, right, spans, &cond, gate);
     }
-    let overlap = Cond::Relate {
-        pred: Pred::Overlaps,
-        left: Expr::Column(spans.pair.left),
-        right: Expr::Column(place),
-    };
+    let overlap = overlap_of(spans.pair.left, place);
     let both = Both {
         first: CondDays { cond: &overlap },
         second: cond,
     };
-    overlap_join(rt, alloc, workers, left, right, spans, &both, gate)
+    let joined = overlap_join(rt, alloc, workers, left, right, spans, &both, gate);
+    drop(overlap);
+    joined
+}
+
+// The condition that the periods in two columns overlap.
+fn overlap_of(left: usize, right: usize) -> Cond
+    ensures { result ≡ conds.Relate preds.Overlaps (exprs.Column left) (exprs.Column right) }
+{
+    Cond::Relate {
+        pred: Pred::Overlaps,
+        left: Expr::Column(left),
+        right: Expr::Column(right),
+    }
 }
