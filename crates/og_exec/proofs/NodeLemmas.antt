@@ -147,7 +147,13 @@ module _ (named : Relations) (d : ℤ) where
       let l = there_is (plan_kinds left) s.some_first in
       All-weaker (HasKinds l.0) (λ x. length x ≡ width) (λ x has. sym (length-map x fixed_kind) ∙ ap length has ∙ sym (wide l.0 (ap plan_kinds same ∙ l.1))) (day_rows named d left) (keeps_kinds named d left l.0 t.0 l.1)
 
-  -- the rows of a plan with two inputs, made of those of their answers
+  -- the rows of a plan with one input, made of those of its answer
+  pub of_one : (f : List Fixed → List Fixed) (plan input other : Plan) (made : List Fixed) (answer : Relation)
+      → day_rows named d plan ≡ f (day_rows named d input) → other ≡ input
+      → made ≡ f (rows_on answer d) → rows_on answer d ≡ day_rows named d other → made ≡ day_rows named d plan
+  of_one f plan input other made answer is_f same step before = step ∙ ap f before ∙ ap (λ q. f (day_rows named d q)) same ∙ sym is_f
+
+  -- and with two inputs
   pub of_two : (f : List Fixed → List Fixed → List Fixed) (plan left right : Plan) (made : List Fixed) (first second : Relation)
       → day_rows named d plan ≡ f (day_rows named d left) (day_rows named d right)
       → made ≡ f (rows_on first d) (rows_on second d) → rows_on first d ≡ day_rows named d left → rows_on second d ≡ day_rows named d right → made ≡ day_rows named d plan
@@ -156,6 +162,12 @@ module _ (named : Relations) (d : ℤ) where
 -- a size that is multiplied
 more_product : (made a b m n size : ℕ) → made ≤ a * b → a ≤ m → b ≤ n → size ≡ m * n → made ≤ size
 more_product made a b m n size h k l e = grind (arith, h, k, l, e)
+
+-- the size of a plan that is that of its input
+pub size_of_one : (sizes : Sizes) (plan input other : Plan) (made : ℕ) (answer : Relation)
+    → plan_size sizes plan ≡ plan_size sizes input → other ≡ input
+    → made ≤ length answer → length answer ≤ plan_size sizes other → made ≤ plan_size sizes plan
+size_of_one sizes plan input other made answer e same h k = let size = ap (plan_size sizes) same in omega (arith, e, size, h, k)
 
 -- the size of a plan that multiplies the sizes of its inputs
 pub size_of_two : (sizes : Sizes) (plan left right : Plan) (made : ℕ) (first second : Relation)

@@ -1,15 +1,18 @@
-use Rattle.std.proofs.Common.{◌≡◌, ◌++◌, ◌&&◌, ℤ, true, length, sym, ap, subst, ◌∙◌}
+use Rattle.std.proofs.Common.{◌≡◌, ◌++◌, ◌&&◌, ℤ, true, filter, length, map, sym, ap, subst, ◌∙◌}
 use Rattle.std.specs.List.{All}
 use Rattle.std.proofs.lemmas.Result.{IfOk-weaker}
 use Rattle.og_base.specs.Calendar.{IsRefDay}
+use Rattle.og_base.specs.Set.{set_of}
+use Rattle.og_value.specs.Order.{row_order}
+use Rattle.og_query.specs.Queries.{image}
 use Rattle.og_plan.specs.Meaning.{all_hold, do_overlap, matches, node_rows}
 use Rattle.og_plan.specs.Shapes.{scans_of}
 use Rattle.og_plan.specs.Sizes.{node_size, plan_size}
-use Rattle.og_plan.proofs.PlanEquations.{fold-Product, fold-KeyJoin, fold-OverlapJoin}
+use Rattle.og_plan.proofs.PlanEquations.{fold-Filter, fold-Project, fold-Semis, fold-Product, fold-KeyJoin, fold-OverlapJoin}
 use Rattle.og_exec.specs.Answers.{rel_of}
 use Rattle.og_exec.specs.Keys.{have_one_key}
 use Rattle.og_exec.specs.Tables.{AreThere, rows_at, rows_on, sizes_of}
-use Rattle.og_exec.proofs.NodeLemmas.{sound_Product, sound_KeyJoin, sound_OverlapJoin, sound_Combine, there_Filter, there_Product, there_KeyJoin, there_OverlapJoin, there_Project, there_Combine, there_Semis, rows_KeyJoin, wide_OverlapJoin, of_two, size_of_two}
+use Rattle.og_exec.proofs.NodeLemmas.{sound_Product, sound_KeyJoin, sound_OverlapJoin, sound_Combine, there_Filter, there_Product, there_KeyJoin, there_OverlapJoin, there_Project, there_Combine, there_Semis, rows_KeyJoin, wide_OverlapJoin, of_one, of_two, size_of_one, size_of_two}
 use Rattle.og_exec.proofs.ShapeLemmas.{day_rows}
 use Rattle.og_exec.proofs.run.+answer_of.Goals as goal
 
@@ -139,3 +142,48 @@ both-answer_of-requires-clause-tables g t c κs within = subst (λ q. AreThere (
 
 pub both-answer_of-requires-2-clause-tables : goal.both-answer_of-requires-2-clause-tables
 both-answer_of-requires-2-clause-tables g t c κs within = subst (λ q. AreThere (g.T.Tables.named c.args.tables.now) (scans_of q)) (sym c.get-2.ensures) c.requires.tables_right
+
+pub answer_of-returns-in_ok-input-in-Filter-clause-law : goal.answer_of-returns-in_ok-input-in-Filter-clause-law
+answer_of-returns-in_ok-input-in-Filter-clause-law g t c =
+    let named = g.T.Tables.named c.args.tables.now in
+    let i = c.in-Filter in
+    let input = c.in_ok-input-in-Filter in
+    IfOk-weaker c.filtered.result _ _
+    (λ a law d day. of_one named d (filter (all_hold d i.parts)) c.args.plan.now i.input c.get.result.now (rows_on (rel_of a) d) (rel_of input.input)
+    (ap (day_rows named d) i.is ∙ fold-Filter (node_rows d (rows_at named d)) i.input i.parts) c.get.ensures (law d day) (input.ensures.law d day)) c.filtered.ensures.law
+
+pub answer_of-returns-in_ok-input-in-Filter-clause-size : goal.answer_of-returns-in_ok-input-in-Filter-clause-size
+answer_of-returns-in_ok-input-in-Filter-clause-size g t c =
+    let sizes = sizes_of (g.T.Tables.named c.args.tables.now) in
+    let i = c.in-Filter in
+    let input = c.in_ok-input-in-Filter in
+    IfOk-weaker c.filtered.result _ _
+    (λ a size. size_of_one sizes c.args.plan.now i.input c.get.result.now (length (rel_of a)) (rel_of input.input)
+    (ap (plan_size sizes) i.is ∙ fold-Filter (node_size sizes) i.input i.parts) c.get.ensures size input.ensures.size) c.filtered.ensures.size
+
+pub answer_of-returns-in_ok-input-in-Project-clause-law : goal.answer_of-returns-in_ok-input-in-Project-clause-law
+answer_of-returns-in_ok-input-in-Project-clause-law g t c =
+    let named = g.T.Tables.named c.args.tables.now in
+    let i = c.in-Project in
+    let input = c.in_ok-input-in-Project in
+    IfOk-weaker c.projected.result _ _
+    (λ a law d day. of_one named d (λ rows. set_of row_order (map (image d i.items) rows)) c.args.plan.now i.input c.get-in-Project.result.now (rows_on (rel_of a) d) (rel_of input.input)
+    (ap (day_rows named d) i.is ∙ fold-Project (node_rows d (rows_at named d)) i.input i.items) c.get-in-Project.ensures (law d day) (input.ensures.law d day)) c.projected.ensures.law
+
+pub answer_of-returns-in_ok-input-in-Project-clause-size : goal.answer_of-returns-in_ok-input-in-Project-clause-size
+answer_of-returns-in_ok-input-in-Project-clause-size g t c =
+    let sizes = sizes_of (g.T.Tables.named c.args.tables.now) in
+    let i = c.in-Project in
+    let input = c.in_ok-input-in-Project in
+    IfOk-weaker c.projected.result _ _
+    (λ a size. size_of_one sizes c.args.plan.now i.input c.get-in-Project.result.now (length (rel_of a)) (rel_of input.input)
+    (ap (plan_size sizes) i.is ∙ fold-Project (node_size sizes) i.input i.items) c.get-in-Project.ensures size input.ensures.size) c.projected.ensures.size
+
+pub answer_of-returns-in_ok-input-in-Semis-clause-size : goal.answer_of-returns-in_ok-input-in-Semis-clause-size
+answer_of-returns-in_ok-input-in-Semis-clause-size g t c =
+    let sizes = sizes_of (g.T.Tables.named c.args.tables.now) in
+    let i = c.in-Semis in
+    let input = c.in_ok-input-in-Semis in
+    IfOk-weaker c.sifted.result _ _
+    (λ a size. size_of_one sizes c.args.plan.now i.input c.get-in-Semis.result.now (length (rel_of a)) (rel_of input.input)
+    (ap (plan_size sizes) i.is ∙ fold-Semis (node_size sizes) i.input i.semis) c.get-in-Semis.ensures size input.ensures.size) c.sifted.ensures.size
