@@ -1,5 +1,4 @@
 pub mod KeyLemmas
-pub mod LoopLemmas
 pub mod MeaningCores
 pub mod MeaningHeld
 pub mod MeaningHomes

@@ -1,7 +1,6 @@
 //! The plan of a query: a function of its text alone.
 ghost use Rattle.std.specs.Prelude.{◌≡◌, ◌++◌, ◌+◌, ◌≤◌, ℤ, true, IfOk, OnOk, length, map};
 ghost use Rattle.std.specs.List.{flat_map};
-ghost use Rattle.og_query.specs.Fits.{core_kinds};
 ghost use Rattle.og_query.specs.Kinds.{kinds_of};
 ghost use Rattle.og_query.specs.Queries.{Named, ordinary_query};
 ghost use Rattle.og_query.specs.Sizes.{Sizes, query_size};
@@ -11,7 +10,6 @@ ghost use Rattle.og_plan.specs.Shapes.{is_sound, scans_of};
 ghost use Rattle.og_plan.specs.Premises.{AreInRange, AllHaveFitRows, query_tables};
 ghost use Rattle.og_plan.specs.Joins as joins;
 ghost use Rattle.og_plan.specs.Homes as homes;
-ghost use Rattle.og_plan.specs.Parts as parts;
 ghost use Rattle.og_plan.specs.PlanOf as spec;
 ghost use Rattle.og_plan.specs.PlanOf.{HaveTables};
 ghost use Rattle.og_plan.specs.declared.plan.Home.TheVariants as home;
@@ -141,15 +139,16 @@ fn semi_plans(alloc: Global, semis: &[Semi]) -> Result<Items<PlanSemi>, NoMemory
 }
 
 // The tree under one node with the semis, where there are any.
-fn sifted(alloc: Global, tree: Plan, semis: &[Semi]) -> Result<Plan, NoMemory>
-    ensures { IfOk result (λ p. p ≡ spec.sifted tree (map spec.semi_plan semis.now)) }
+fn sifted(alloc: Global, tree: Plan, semis: Items<PlanSemi>) -> Result<Plan, NoMemory>
+    ensures { IfOk result (λ p. p ≡ spec.sifted tree semis) }
 {
     if semis.is_empty() {
         return Ok(tree);
     }
-    let input = Boxed::new(alloc, tree)?;
-    let semis = semi_plans(alloc, semis)?;
-    Ok(Plan::Semis { input, semis })
+    Ok(Plan::Semis {
+        input: Boxed::new(alloc, tree)?,
+        semis,
+    })
 }
 
 // The tree under the projection to the items.
@@ -162,31 +161,23 @@ fn projected(alloc: Global, tree: Plan, items: &Items<Expr>) -> Result<Plan, NoM
     })
 }
 
-// The tree of a core.
-fn core_tree(alloc: Global, core: &Core) -> Result<Plan, NoMemory>
-    requires { 1 ≤ length core.now.tables }
-    ensures { IfOk result (λ p. p ≡ spec.tree_of (core_kinds core.now) (spec.widths_of core.now.tables) (parts.parts_of core.now.cond) core.now.tables) }
-{
-    let tables = core.tables.as_slice();
-    let kinds = kinds_in(alloc, tables)?;
-    let widths = widths_of(alloc, tables)?;
-    let parts = parts_of(alloc, &core.cond)?;
-    tree_of(
-        alloc,
-        kinds.as_slice(),
-        widths.as_slice(),
-        parts.as_slice(),
-        tables,
-    )
-}
-
 // A core: its tree, under one node with its semis, under the projection to its items.
 fn core_plan(alloc: Global, core: &Core) -> Result<Plan, NoMemory>
     requires { 1 ≤ length core.now.tables }
     ensures { IfOk result (λ p. p ≡ spec.core_plan core.now) }
 {
-    let semis = core.semis.as_slice();
-    let tree = core_tree(alloc, core)?;
+    let tables = core.tables.as_slice();
+    let kinds = kinds_in(alloc, tables)?;
+    let widths = widths_of(alloc, tables)?;
+    let parts = parts_of(alloc, &core.cond)?;
+    let semis = semi_plans(alloc, core.semis.as_slice())?;
+    let tree = tree_of(
+        alloc,
+        kinds.as_slice(),
+        widths.as_slice(),
+        parts.as_slice(),
+        tables,
+    )?;
     let under = sifted(alloc, tree, semis)?;
     projected(alloc, under, &core.items)
 }

@@ -1,5 +1,5 @@
 //! The parts of conditions, and conditions whose places are counted from a later one.
-ghost use Rattle.std.specs.Prelude.{◌≡◌, ◌++◌, ◌∷◌, [], IfOk, OnOk, map};
+ghost use Rattle.std.specs.Prelude.{◌≡◌, ◌∷◌, [], IfOk, map};
 ghost use Rattle.std.specs.List.{flat_map};
 ghost use Rattle.og_plan.specs.Parts as spec;
 
@@ -36,16 +36,8 @@ fn one_part(alloc: Global, cond: &Cond) -> Result<Items<Cond>, NoMemory>
     ensures { IfOk result (λ parts. parts ≡ cond.now ∷ []) }
 {
     let mut parts = Items::new(alloc);
-    add_copy(alloc, cond, &mut parts)?;
+    parts.push(cond.copy(alloc)?)?;
     Ok(parts)
-}
-
-// Appends a copy of the condition.
-pub(crate) fn add_copy(alloc: Global, cond: &Cond, conds: &mut Items<Cond>) -> Result<(), NoMemory>
-    ensures { OnOk result (conds.new ≡ conds.old ++ cond.now ∷ []) }
-{
-    conds.push(cond.copy(alloc)?)?;
-    Ok(())
 }
 
 // The expression with its places counted from that one.
@@ -75,20 +67,6 @@ fn exprs_from(alloc: Global, start: usize, exprs: &Items<Expr>) -> Result<Items<
     Ok(moved)
 }
 
-// The two expressions with their places counted from that one.
-fn both_from(
-    alloc: Global,
-    start: usize,
-    left: &Expr,
-    right: &Expr,
-) -> Result<(Expr, Expr), NoMemory>
-    ensures { IfOk result (λ both. both ≡ (spec.expr_from start left.now, spec.expr_from start right.now)) }
-{
-    let left = expr_from(alloc, start, left)?;
-    let right = expr_from(alloc, start, right)?;
-    Ok((left, right))
-}
-
 // The condition with its places counted from that one.
 #[cycle(cond_from)]
 fn cond_from(alloc: Global, start: usize, cond: &Cond) -> Result<Cond, NoMemory>
@@ -101,21 +79,21 @@ fn cond_from(alloc: Global, start: usize, cond: &Cond) -> Result<Cond, NoMemory>
             let moved = cond_from(alloc, start, one.get())?;
             Ok(Cond::Not(Boxed::new(alloc, moved)?))
         }
-        Cond::Compare { op, left, right } => {
-            let (left, right) = both_from(alloc, start, left, right)?;
-            let op = *op;
-            Ok(Cond::Compare { op, left, right })
-        }
-        Cond::Relate { pred, left, right } => {
-            let (left, right) = both_from(alloc, start, left, right)?;
-            let pred = *pred;
-            Ok(Cond::Relate { pred, left, right })
-        }
+        Cond::Compare { op, left, right } => Ok(Cond::Compare {
+            op: *op,
+            left: expr_from(alloc, start, left)?,
+            right: expr_from(alloc, start, right)?,
+        }),
+        Cond::Relate { pred, left, right } => Ok(Cond::Relate {
+            pred: *pred,
+            left: expr_from(alloc, start, left)?,
+            right: expr_from(alloc, start, right)?,
+        }),
         Cond::Empty(period) => Ok(Cond::Empty(expr_from(alloc, start, period)?)),
-        Cond::Contains(period, day) => {
-            let (period, day) = both_from(alloc, start, period, day)?;
-            Ok(Cond::Contains(period, day))
-        }
+        Cond::Contains(period, day) => Ok(Cond::Contains(
+            expr_from(alloc, start, period)?,
+            expr_from(alloc, start, day)?,
+        )),
     }
 }
 

@@ -1,6 +1,5 @@
-use Rattle.std.proofs.Common.{◌≡◌, ◌≤◌, ℕ, List, length, take, fold, sym, ap, ap₂, ◌∙◌}
+use Rattle.std.proofs.Common.{◌≡◌, ◌≤◌, ℕ, List, length, take, fold, ap, ◌∙◌}
 use Rattle.std.proofs.lemmas.List.{take_all}
-use Rattle.std.proofs.lemmas.List.Sums.{fold_more}
 use Rattle.og_query.specs.declared.query.Query.{Query}
 use Rattle.og_query.specs.declared.query.Rest.{Rest}
 use Rattle.og_plan.specs.Meaning.{plan_rows}
@@ -18,16 +17,6 @@ use Rattle.og_plan.proofs.cores.plan_of.Goals as goal
 all_made : (query : Query) (plan : Plan) (rests : List Rest) (n : ℕ) → rests ≡ query.rest → length rests ≤ n
     → plan ≡ fold (λ left rest. Combine rest.op left (core_plan rest.core)) (core_plan query.first) (take n rests) → plan ≡ plan_of query
 all_made query plan rests n same all is = is ∙ ap (fold (λ left rest. Combine rest.op left (core_plan rest.core)) (core_plan query.first)) (take_all n rests all ∙ same)
-
--- a plan with one core more
-abbrev more : Plan → Rest → Plan
-more left rest = Combine rest.op left (core_plan rest.core)
-
-pub rests-preserved : goal.rests-preserved
-rests-preserved c =
-    ap₂ (Combine c.rest-item.result.op) c.in_ok-left.ensures (c.in_ok-right.ensures ∙ c.in_ok-core_plan.ensures)
-    ∙ ap₂ more c.rests.invariant c.rest-item.is
-    ∙ sym (fold_more more (core_plan c.args.query.now.first) c.as_slice-rest-items.result.now c.rests.rest-index c.rest-item.result c.rests-test.true)
 
 pub returns-clause-meaning : goal.returns-clause-meaning
 returns-clause-meaning c d rows fit =

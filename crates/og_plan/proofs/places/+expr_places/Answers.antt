@@ -1,6 +1,5 @@
 use Rattle.std.proofs.Common.{◌≡◌, ◌++◌, OnOk, subst, ap, sym, ◌∙◌}
 use Rattle.og_plan.specs.Parts.{expr_places}
-use Rattle.og_plan.proofs.LoopLemmas.{appended_lists_more}
 use Rattle.og_plan.proofs.PartEquations.{expr_places-Call}
 use Rattle.og_plan.proofs.places.+expr_places.Goals as goal
 
@@ -8,7 +7,3 @@ pub expr_places-returns-in-Call : goal.expr_places-returns-in-Call
 expr_places-returns-in-Call t c =
     subst (λ places. OnOk c.all_expr_places.result (c.all_expr_places.new.out.items ≡ c.args.out.now.items ++ places))
     (sym (expr_places-Call c.in-Call.func c.in-Call.args) ∙ ap expr_places (sym c.in-Call.is)) c.all_expr_places.ensures
-
-pub all_expr_places-all-preserved : goal.all_expr_places-all-preserved
-all_expr_places-all-preserved t c =
-    appended_lists_more c.as_slice-expr-items.result.now c.all.expr-index c.expr-item.result _ _ c.all-test.true c.expr-item.is c.args.out.now.items expr_places c.all.invariant c.in_ok-expr_places.ensures

@@ -1,6 +1,5 @@
 use Rattle.std.proofs.Common.{◌≡◌, ◌++◌, OnOk, subst, ap, sym, ◌∙◌}
 use Rattle.og_plan.specs.Parts.{places_of}
-use Rattle.og_plan.proofs.LoopLemmas.{appended_lists_more}
 use Rattle.og_plan.proofs.PartEquations.{places_of-And, places_of-Or}
 use Rattle.og_plan.proofs.places.+places.Goals as goal
 
@@ -13,7 +12,3 @@ pub places_of-returns-in-Or : goal.places_of-returns-in-Or
 places_of-returns-in-Or t c =
     subst (λ places. OnOk c.all_places-in-Or.result (c.all_places-in-Or.new.out.items ≡ c.args.out.now.items ++ places))
     (sym (places_of-Or c.in-Or.conds) ∙ ap places_of (sym c.in-Or.is)) c.all_places-in-Or.ensures
-
-pub all_places-all-preserved : goal.all_places-all-preserved
-all_places-all-preserved t c =
-    appended_lists_more c.as_slice-cond-items.result.now c.all.cond-index c.cond-item.result _ _ c.all-test.true c.cond-item.is c.args.out.now.items places_of c.all.invariant c.in_ok-places_of.ensures
