@@ -16,39 +16,47 @@ use og_value::Kind;
 use std::alloc::Global;
 use thiserror::Error;
 
-/// What is wrong with the words, with the script or with a statement (docs/LANGUAGE.md, "Faults"). Its
-/// text is its `line`.
-#[derive(Debug, Drop)]
+/// What is wrong with the words, with the script or with a statement (docs/LANGUAGE.md, "Faults").
+#[derive(Debug, Drop, Error)]
 pub enum Fault {
     /// The words are no command.
+    #[error("the words are no command")]
     Words,
     /// The source has more bytes than a script may have.
+    #[error("the source is too long")]
     SourceTooLong,
     /// No token begins at that place, counted in bytes from 0.
+    #[error("no token at {offset}")]
     BadByte {
         offset: usize,
     },
     /// The text that begins at that place does not close.
+    #[error("open text at {offset}")]
     OpenText {
         offset: usize,
     },
     /// The number that begins at that place is outside 64 bits.
+    #[error("number out of range at {offset}")]
     NumberRange {
         offset: usize,
     },
     /// The statement with that number, counted from 1, is none that runs.
+    #[error("statement {statement} is no statement that runs")]
     Syntax {
         statement: usize,
     },
     /// The statement with that number is nested too deep.
+    #[error("statement {statement} is too deep")]
     TooDeep {
         statement: usize,
     },
     /// A quoted text of the statement with that number is not of its form.
+    #[error("a literal of statement {statement} is not of its form")]
     Literal {
         statement: usize,
     },
     /// The names, kinds or counts of the statement with that number do not fit.
+    #[error("statement {statement}: {refusal}")]
     Check {
         statement: usize,
         refusal: CheckRefusal,
@@ -214,7 +222,7 @@ fn kind_word(kind: Kind) -> &'static str
 #[derive(Debug, Drop, Error)]
 pub enum Stop {
     /// A fault of the words, of the script or of a statement.
-    #[error("the words or the script have a fault")]
+    #[error("{0}")]
     Fault(Fault),
     /// The source failed.
     #[error("the source failed")]
