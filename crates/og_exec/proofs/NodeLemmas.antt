@@ -147,30 +147,31 @@ module _ (named : Relations) (d : ℤ) where
       let l = there_is (plan_kinds left) s.some_first in
       All-weaker (HasKinds l.0) (λ x. length x ≡ width) (λ x has. sym (length-map x fixed_kind) ∙ ap length has ∙ sym (wide l.0 (ap plan_kinds same ∙ l.1))) (day_rows named d left) (keeps_kinds named d left l.0 t.0 l.1)
 
-  -- the rows of a plan with one input, from the relation that was made of the input's
-  pub of_one : (f : List Fixed → List Fixed) (plan input other : Plan) (made : List Fixed) (lent answer : Relation)
-      → day_rows named d plan ≡ f (day_rows named d input) → other ≡ input → lent ≡ answer
-      → made ≡ f (rows_on lent d) → rows_on answer d ≡ day_rows named d other → made ≡ day_rows named d plan
-  of_one f plan input other made lent answer is_f same is_answer step before =
-      step ∙ ap (λ rel. f (rows_on rel d)) is_answer ∙ ap f before ∙ ap (λ q. f (day_rows named d q)) same ∙ sym is_f
+  -- the rows of a plan with one input, made of those of its answer
+  pub of_one : (f : List Fixed → List Fixed) (plan input other : Plan) (made : List Fixed) (answer : Relation)
+      → day_rows named d plan ≡ f (day_rows named d input) → other ≡ input
+      → made ≡ f (rows_on answer d) → rows_on answer d ≡ day_rows named d other → made ≡ day_rows named d plan
+  of_one f plan input other made answer is_f same step before = step ∙ ap f before ∙ ap (λ q. f (day_rows named d q)) same ∙ sym is_f
 
   -- and with two inputs
-  pub of_two : (f : List Fixed → List Fixed → List Fixed) (plan left right one other : Plan) (made : List Fixed) (a b first second : Relation)
-      → day_rows named d plan ≡ f (day_rows named d left) (day_rows named d right) → one ≡ left → other ≡ right → a ≡ first → b ≡ second
-      → made ≡ f (rows_on a d) (rows_on b d) → rows_on first d ≡ day_rows named d one → rows_on second d ≡ day_rows named d other → made ≡ day_rows named d plan
-  of_two f plan left right one other made a b first second is_f same same_other is_a is_b step before before_other =
-      step ∙ ap₂ (λ l r. f (rows_on l d) (rows_on r d)) is_a is_b ∙ ap₂ f before before_other
-      ∙ ap₂ (λ l r. f (day_rows named d l) (day_rows named d r)) same same_other ∙ sym is_f
+  pub of_two : (f : List Fixed → List Fixed → List Fixed) (plan left right : Plan) (made : List Fixed) (first second : Relation)
+      → day_rows named d plan ≡ f (day_rows named d left) (day_rows named d right)
+      → made ≡ f (rows_on first d) (rows_on second d) → rows_on first d ≡ day_rows named d left → rows_on second d ≡ day_rows named d right → made ≡ day_rows named d plan
+  of_two f plan left right made first second is_f step before before_other = step ∙ ap₂ f before before_other ∙ sym is_f
 
 -- a size that is multiplied
 more_product : (made a b m n size : ℕ) → made ≤ a * b → a ≤ m → b ≤ n → size ≡ m * n → made ≤ size
 more_product made a b m n size h k l e = grind (arith, h, k, l, e)
 
+-- the size of a plan that is that of its input
+pub size_of_one : (sizes : Sizes) (plan input other : Plan) (made : ℕ) (answer : Relation)
+    → plan_size sizes plan ≡ plan_size sizes input → other ≡ input
+    → made ≤ length answer → length answer ≤ plan_size sizes other → made ≤ plan_size sizes plan
+size_of_one sizes plan input other made answer e same h k = let size = ap (plan_size sizes) same in omega (arith, e, size, h, k)
+
 -- the size of a plan that multiplies the sizes of its inputs
-pub size_of_two : (sizes : Sizes) (plan left right one other : Plan) (made : ℕ) (a b first second : Relation)
-    → plan_size sizes plan ≡ plan_size sizes left * plan_size sizes right → one ≡ left → other ≡ right → a ≡ first → b ≡ second
-    → made ≤ length a * length b → length first ≤ plan_size sizes one → length second ≤ plan_size sizes other → made ≤ plan_size sizes plan
-size_of_two sizes plan left right one other made a b first second e same same_other is_a is_b h k l =
-    more_product made (length a) (length b) (plan_size sizes left) (plan_size sizes right) (plan_size sizes plan) h
-    (subst (λ q. length a ≤ plan_size sizes q) same (subst (λ r. length r ≤ plan_size sizes one) (sym is_a) k))
-    (subst (λ q. length b ≤ plan_size sizes q) same_other (subst (λ r. length r ≤ plan_size sizes other) (sym is_b) l)) e
+pub size_of_two : (sizes : Sizes) (plan left right : Plan) (made : ℕ) (first second : Relation)
+    → plan_size sizes plan ≡ plan_size sizes left * plan_size sizes right
+    → made ≤ length first * length second → length first ≤ plan_size sizes left → length second ≤ plan_size sizes right → made ≤ plan_size sizes plan
+size_of_two sizes plan left right made first second e h k l =
+    more_product made (length first) (length second) (plan_size sizes left) (plan_size sizes right) (plan_size sizes plan) h k l e

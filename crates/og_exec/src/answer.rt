@@ -1,8 +1,9 @@
 //! Answers, lent or made.
-ghost use Rattle.std.specs.Prelude.{◌≡◌, ℤ, length};
+ghost use Rattle.std.specs.Prelude.{◌≡◌, ℤ, Ok, IfOk, length};
 ghost use Rattle.og_exec.specs.Answers.{rel_of};
 ghost use Rattle.og_exec.specs.Tables.{rows_on, rows_or_none, size_or_none};
 
+use og_base::NoMemory;
 use og_rel::{Rel, Tables};
 use og_value::{Name, Row};
 use std::alloc::Global;
@@ -23,6 +24,23 @@ impl<'t> Answer<'t> {
             Answer::Lent(rel) => *rel,
             Answer::Made(rel) => rel,
         }
+    }
+}
+
+// The answers of the two inputs of a node.
+#[derive(Drop)]
+pub(crate) struct Inputs<'t> {
+    pub(crate) left: Answer<'t>,
+    pub(crate) right: Answer<'t>,
+}
+
+// The relation as an answer, where it was made.
+pub(crate) fn made<'t>(rel: Result<Rel<Row>, NoMemory>) -> Result<Answer<'t>, NoMemory>
+    ensures { IfOk result (λ a. rel ≡ Ok (rel_of a)) }
+{
+    match rel {
+        Ok(rel) => Ok(Answer::Made(rel)),
+        Err(refusal) => Err(refusal),
     }
 }
 

@@ -5,16 +5,30 @@ ghost use Rattle.og_value.specs.Order.{row_order};
 ghost use Rattle.og_rel.specs.Algebra.{union, except, intersect};
 ghost use Rattle.og_query.specs.Queries as meant;
 ghost use Rattle.og_query.specs.Sizes.{combined_size};
+ghost use Rattle.og_exec.specs.Answers.{rel_of};
 ghost use Rattle.og_exec.specs.Tables.{rows_on};
 
+use crate::answer::{Answer, Inputs, made};
 use og_base::NoMemory;
 use og_ops::{BinaryOp, Difference, Intersection, Union};
 use og_rel::Rel;
 use og_value::{Row, SetOp, order_of_rows};
 use std::alloc::Global;
 
+// The answer that the operator makes of both.
+pub(crate) fn combined<'t>(
+    alloc: Global,
+    op: SetOp,
+    inputs: Inputs<'_>,
+) -> Result<Answer<'t>, NoMemory>
+    ensures law { IfOk result (λ a. (d : ℤ) → IsRefDay d → rows_on (rel_of a) d ≡ meant.combined op (rows_on (rel_of inputs.entry.left) d) (rows_on (rel_of inputs.entry.right) d)) }
+    ensures size { IfOk result (λ a. length (rel_of a) ≤ combined_size op (length (rel_of inputs.entry.left)) (length (rel_of inputs.entry.right))) }
+{
+    made(applied(alloc, op, inputs.left.rel(), inputs.right.rel()))
+}
+
 // The rows that the operator makes of both.
-pub(crate) fn combined(
+fn applied(
     alloc: Global,
     op: SetOp,
     left: &Rel<Row>,

@@ -4,16 +4,17 @@ ghost use Rattle.og_base.specs.Calendar.{IsRefDay};
 ghost use Rattle.og_par.specs.Limits.{max_workers};
 ghost use Rattle.og_value.specs.Values.{row_at, value_at};
 ghost use Rattle.og_plan.specs.Meaning.{all_hold, column, matches};
+ghost use Rattle.og_exec.specs.Answers.{rel_of};
 ghost use Rattle.og_exec.specs.Keys as meant;
 ghost use Rattle.og_exec.specs.Tables.{rows_on};
 
+use crate::answer::{Answer, Inputs, made};
 use og_base::NoMemory;
 use og_expr::PartDays;
 use og_join::{Keys, key_join};
 use og_par::Gate;
 use og_plan::ColPair;
 use og_query::Cond;
-use og_rel::Rel;
 use og_value::{FixedRow, FixedValue, Row, Value, order_of_rows};
 use sqlite_items::Items;
 use std::alloc::Global;
@@ -89,24 +90,32 @@ fn value_key(value: &Value) -> Result<FixedValue, NoMemory>
 }
 
 // The combinations whose keys are equal and for which all parts hold.
-pub(crate) fn key_joined<H: Threads + Sync, G: Gate + Sync>(
+pub(crate) fn key_joined<'t, H: Threads + Sync, G: Gate + Sync>(
     rt: &H,
     alloc: Global,
     workers: usize,
-    left: &Rel<Row>,
-    right: &Rel<Row>,
+    inputs: Inputs<'_>,
     pairs: &Items<ColPair>,
     rest: &Items<Cond>,
     gate: &G,
-) -> Result<Rel<Row>, NoMemory>
+) -> Result<Answer<'t>, NoMemory>
     requires least { 1 ≤ workers }
     requires most { workers ≤ max_workers }
-    ensures law { IfOk result (λ r. (d : ℤ) → IsRefDay d → rows_on r d
-        ≡ matches (λ x y. meant.have_one_key pairs.now x y && all_hold d rest.now (x ++ y)) (rows_on left.now d) (rows_on right.now d)) }
-    ensures size { IfOk result (λ r. length r ≤ length left.now * length right.now) }
+    ensures law { IfOk result (λ a. (d : ℤ) → IsRefDay d → rows_on (rel_of a) d
+        ≡ matches (λ x y. meant.have_one_key pairs.now x y && all_hold d rest.now (x ++ y)) (rows_on (rel_of inputs.entry.left) d) (rows_on (rel_of inputs.entry.right) d)) }
+    ensures size { IfOk result (λ a. length (rel_of a) ≤ length (rel_of inputs.entry.left) * length (rel_of inputs.entry.right)) }
 {
     order_of_rows();
     let keys = ColumnKeys { pairs };
     let cond = PartDays { parts: rest };
-    key_join(rt, alloc, workers, left, right, &keys, &cond, gate)
+    made(key_join(
+        rt,
+        alloc,
+        workers,
+        inputs.left.rel(),
+        inputs.right.rel(),
+        &keys,
+        &cond,
+        gate,
+    ))
 }

@@ -5,58 +5,53 @@ ghost use Rattle.og_base.specs.Set.{set_of};
 ghost use Rattle.og_value.specs.Order.{row_order};
 ghost use Rattle.og_query.specs.Queries.{image};
 ghost use Rattle.og_plan.specs.Meaning.{all_hold, matches};
+ghost use Rattle.og_exec.specs.Answers.{rel_of};
 ghost use Rattle.og_exec.specs.Tables.{rows_on};
 
+use crate::answer::{Answer, Inputs, made};
 use og_base::NoMemory;
 use og_expr::{ItemMap, PartDays};
 use og_ops::{BinaryOp, Product, Project, Select, UnaryOp};
 use og_query::{Cond, Expr};
-use og_rel::Rel;
 use og_value::{Row, order_of_rows};
 use sqlite_items::Items;
 use std::alloc::Global;
 
 // The rows for which all parts hold.
-pub(crate) fn filtered(
+pub(crate) fn filtered<'t>(
     alloc: Global,
-    input: &Rel<Row>,
+    input: Answer<'_>,
     parts: &Items<Cond>,
-) -> Result<Rel<Row>, NoMemory>
-    ensures law { IfOk result (λ r. (d : ℤ) → IsRefDay d → rows_on r d ≡ filter (all_hold d parts.now) (rows_on input.now d)) }
-    ensures size { IfOk result (λ r. length r ≤ length input.now) }
+) -> Result<Answer<'t>, NoMemory>
+    ensures law { IfOk result (λ a. (d : ℤ) → IsRefDay d → rows_on (rel_of a) d ≡ filter (all_hold d parts.now) (rows_on (rel_of input.entry) d)) }
+    ensures size { IfOk result (λ a. length (rel_of a) ≤ length (rel_of input.entry)) }
 {
     order_of_rows();
-    Select {
-        cond: PartDays { parts },
-    }
-    .apply(alloc, input)
+    let cond = PartDays { parts };
+    made(Select { cond }.apply(alloc, input.rel()))
 }
 
 // All combinations of a left and a right row.
-pub(crate) fn multiplied(
-    alloc: Global,
-    left: &Rel<Row>,
-    right: &Rel<Row>,
-) -> Result<Rel<Row>, NoMemory>
-    ensures law { IfOk result (λ r. (d : ℤ) → IsRefDay d → rows_on r d ≡ matches (λ _ _. true) (rows_on left.now d) (rows_on right.now d)) }
-    ensures size { IfOk result (λ r. length r ≤ length left.now * length right.now) }
+pub(crate) fn multiplied<'t>(alloc: Global, inputs: Inputs<'_>) -> Result<Answer<'t>, NoMemory>
+    ensures law { IfOk result (λ a. (d : ℤ) → IsRefDay d → rows_on (rel_of a) d ≡ matches (λ _ _. true) (rows_on (rel_of inputs.entry.left) d) (rows_on (rel_of inputs.entry.right) d)) }
+    ensures size { IfOk result (λ a. length (rel_of a) ≤ length (rel_of inputs.entry.left) * length (rel_of inputs.entry.right)) }
 {
     order_of_rows();
-    Product.apply(alloc, left, right)
+    made(Product.apply(alloc, inputs.left.rel(), inputs.right.rel()))
 }
 
 // The images of the rows.
-pub(crate) fn projected(
+pub(crate) fn projected<'t>(
     alloc: Global,
-    input: &Rel<Row>,
+    input: Answer<'_>,
     items: &Items<Expr>,
-) -> Result<Rel<Row>, NoMemory>
-    ensures law { IfOk result (λ r. (d : ℤ) → IsRefDay d → rows_on r d ≡ set_of row_order (map (image d items.now) (rows_on input.now d))) }
-    ensures size { IfOk result (λ r. length r ≤ length input.now) }
+) -> Result<Answer<'t>, NoMemory>
+    ensures law { IfOk result (λ a. (d : ℤ) → IsRefDay d → rows_on (rel_of a) d ≡ set_of row_order (map (image d items.now) (rows_on (rel_of input.entry) d))) }
+    ensures size { IfOk result (λ a. length (rel_of a) ≤ length (rel_of input.entry)) }
 {
     order_of_rows();
     let items = ItemMap {
         items: items.as_slice(),
     };
-    Project { items }.apply(alloc, input)
+    made(Project { items }.apply(alloc, input.rel()))
 }

@@ -3,10 +3,15 @@ ghost use Rattle.std.specs.Prelude.{◌≡◌, ◌≤◌, ◌*◌, ◌++◌, ◌
 ghost use Rattle.std.specs.List.{All};
 ghost use Rattle.og_base.specs.Calendar.{IsRefDay};
 ghost use Rattle.og_par.specs.Limits.{max_workers};
+ghost use Rattle.og_value.specs.declared.term.Pred.TheVariants as preds;
+ghost use Rattle.og_query.specs.declared.condition.Cond.TheVariants as conds;
+ghost use Rattle.og_query.specs.declared.expression.Expr.TheVariants as exprs;
 ghost use Rattle.og_plan.specs.Meaning.{all_hold, do_overlap, matches};
+ghost use Rattle.og_exec.specs.Answers.{rel_of};
 ghost use Rattle.og_exec.specs.Spans.{do_overlap_and};
 ghost use Rattle.og_exec.specs.Tables.{rows_on};
 
+use crate::answer::{Answer, Inputs, made};
 use crate::spans::{Both, ColumnSpans, are_as_wide, say_overlap};
 use crate::widths::added;
 use og_base::NoMemory;
@@ -23,7 +28,37 @@ use std::thread::Threads;
 
 // The combinations whose periods overlap and for which the rest holds, where each left row has so
 // many values.
-pub(crate) fn overlap_joined<H: Threads + Sync, G: Gate + Sync>(
+pub(crate) fn overlap_joined<'t, H: Threads + Sync, G: Gate + Sync>(
+    rt: &H,
+    alloc: Global,
+    workers: usize,
+    inputs: Inputs<'_>,
+    width: usize,
+    pair: &ColPair,
+    rest: &Items<Cond>,
+    gate: &G,
+) -> Result<Answer<'t>, NoMemory>
+    requires least { 1 ≤ workers }
+    requires most { workers ≤ max_workers }
+    ensures law { IfOk result (λ a. (d : ℤ) → IsRefDay d → All (λ x. length x ≡ width) (rows_on (rel_of inputs.entry.left) d) → rows_on (rel_of a) d
+        ≡ matches (λ x y. do_overlap x y pair.now && all_hold d rest.now (x ++ y)) (rows_on (rel_of inputs.entry.left) d) (rows_on (rel_of inputs.entry.right) d)) }
+    ensures size { IfOk result (λ a. length (rel_of a) ≤ length (rel_of inputs.entry.left) * length (rel_of inputs.entry.right)) }
+{
+    made(pair_joined(
+        rt,
+        alloc,
+        workers,
+        inputs.left.rel(),
+        inputs.right.rel(),
+        width,
+        pair,
+        rest,
+        gate,
+    ))
+}
+
+// The same of two relations.
+fn pair_joined<H: Threads + Sync, G: Gate + Sync>(
     rt: &H,
     alloc: Global,
     workers: usize,
@@ -82,14 +117,23 @@ fn columns_joined<H: Threads + Sync, G: Gate + Sync>(
     if say_overlap(rest, spans.pair.left, place) {
         return overlap_join(rt, alloc, workers, left, right, spans, &cond, gate);
     }
-    let overlap = Cond::Relate {
-        pred: Pred::Overlaps,
-        left: Expr::Column(spans.pair.left),
-        right: Expr::Column(place),
-    };
+    let overlap = overlap_of(spans.pair.left, place);
     let both = Both {
         first: CondDays { cond: &overlap },
         second: cond,
     };
-    overlap_join(rt, alloc, workers, left, right, spans, &both, gate)
+    let joined = overlap_join(rt, alloc, workers, left, right, spans, &both, gate);
+    drop(overlap);
+    joined
+}
+
+// The condition that the periods in two columns overlap.
+fn overlap_of(left: usize, right: usize) -> Cond
+    ensures { result ≡ conds.Relate preds.Overlaps (exprs.Column left) (exprs.Column right) }
+{
+    Cond::Relate {
+        pred: Pred::Overlaps,
+        left: Expr::Column(left),
+        right: Expr::Column(right),
+    }
 }

@@ -10,7 +10,7 @@ ghost use Rattle.og_plan.specs.Sizes.{plan_size};
 ghost use Rattle.og_exec.specs.Answers.{rel_of};
 ghost use Rattle.og_exec.specs.Tables.{AreThere, rows_at, rows_on, sizes_of};
 
-use crate::answer::{Answer, lent};
+use crate::answer::{Answer, Inputs, lent};
 use crate::combine::combined;
 use crate::keys::key_joined;
 use crate::nodes::{filtered, multiplied, projected};
@@ -22,6 +22,7 @@ use og_par::Gate;
 use og_plan::Plan;
 use og_rel::{Rel, Tables};
 use og_value::{FixedRow, Row, order_of_rows};
+use sqlite_items::Boxed;
 use std::alloc::Global;
 use std::thread::Threads;
 
@@ -52,6 +53,7 @@ pub fn exec<H: Threads + Sync, T: Tables<Row>, G: Gate + Sync>(
 }
 
 // The answer of a plan.
+#[cycle(answer_of)]
 fn answer_of<'t, H: Threads + Sync, T: Tables<Row>, G: Gate + Sync>(
     rt: &H,
     alloc: Global,
@@ -71,12 +73,11 @@ fn answer_of<'t, H: Threads + Sync, T: Tables<Row>, G: Gate + Sync>(
         Plan::Scan { name, .. } => Ok(lent(alloc, name, tables)),
         Plan::Filter { input, parts } => {
             let input = answer_of(rt, alloc, input.get(), tables, workers, gate)?;
-            Ok(Answer::Made(filtered(alloc, input.rel(), parts)?))
+            filtered(alloc, input, parts)
         }
         Plan::Product { left, right } => {
-            let left = answer_of(rt, alloc, left.get(), tables, workers, gate)?;
-            let right = answer_of(rt, alloc, right.get(), tables, workers, gate)?;
-            Ok(Answer::Made(multiplied(alloc, left.rel(), right.rel())?))
+            let inputs = both(rt, alloc, left, right, tables, workers, gate)?;
+            multiplied(alloc, inputs)
         }
         Plan::KeyJoin {
             left,
@@ -84,19 +85,8 @@ fn answer_of<'t, H: Threads + Sync, T: Tables<Row>, G: Gate + Sync>(
             pairs,
             rest,
         } => {
-            let left = answer_of(rt, alloc, left.get(), tables, workers, gate)?;
-            let right = answer_of(rt, alloc, right.get(), tables, workers, gate)?;
-            let made = key_joined(
-                rt,
-                alloc,
-                workers,
-                left.rel(),
-                right.rel(),
-                pairs,
-                rest,
-                gate,
-            )?;
-            Ok(Answer::Made(made))
+            let inputs = both(rt, alloc, left, right, tables, workers, gate)?;
+            key_joined(rt, alloc, workers, inputs, pairs, rest, gate)
         }
         Plan::OverlapJoin {
             left,
@@ -105,33 +95,47 @@ fn answer_of<'t, H: Threads + Sync, T: Tables<Row>, G: Gate + Sync>(
             rest,
         } => {
             let width = width_of(left.get())?;
-            let left = answer_of(rt, alloc, left.get(), tables, workers, gate)?;
-            let right = answer_of(rt, alloc, right.get(), tables, workers, gate)?;
-            let made = overlap_joined(
-                rt,
-                alloc,
-                workers,
-                left.rel(),
-                right.rel(),
-                width,
-                pair,
-                rest,
-                gate,
-            )?;
-            Ok(Answer::Made(made))
+            let inputs = both(rt, alloc, left, right, tables, workers, gate)?;
+            overlap_joined(rt, alloc, workers, inputs, width, pair, rest, gate)
         }
         Plan::Project { input, items } => {
             let input = answer_of(rt, alloc, input.get(), tables, workers, gate)?;
-            Ok(Answer::Made(projected(alloc, input.rel(), items)?))
+            projected(alloc, input, items)
         }
         Plan::Combine { op, left, right } => {
-            let left = answer_of(rt, alloc, left.get(), tables, workers, gate)?;
-            let right = answer_of(rt, alloc, right.get(), tables, workers, gate)?;
-            Ok(Answer::Made(combined(alloc, *op, left.rel(), right.rel())?))
+            let inputs = both(rt, alloc, left, right, tables, workers, gate)?;
+            combined(alloc, *op, inputs)
         }
         Plan::Semis { input, semis } => {
             let input = answer_of(rt, alloc, input.get(), tables, workers, gate)?;
             sifted(alloc, input, semis.as_slice(), tables)
         }
     }
+}
+
+// The answers of the two inputs of a node.
+#[cycle(answer_of)]
+fn both<'t, H: Threads + Sync, T: Tables<Row>, G: Gate + Sync>(
+    rt: &H,
+    alloc: Global,
+    left: &Boxed<Plan>,
+    right: &Boxed<Plan>,
+    tables: &'t T,
+    workers: usize,
+    gate: &G,
+) -> Result<Inputs<'t>, NoMemory>
+    requires least { 1 ≤ workers }
+    requires most { workers ≤ max_workers }
+    requires sound_left { is_sound left.now ≡ true }
+    requires sound_right { is_sound right.now ≡ true }
+    requires tables_left { AreThere (T.named tables.now) (scans_of left.now) }
+    requires tables_right { AreThere (T.named tables.now) (scans_of right.now) }
+    ensures law_left { IfOk result (λ i. (d : ℤ) → IsRefDay d → rows_on (rel_of i.left) d ≡ plan_rows d (rows_at (T.named tables.now) d) left.now) }
+    ensures law_right { IfOk result (λ i. (d : ℤ) → IsRefDay d → rows_on (rel_of i.right) d ≡ plan_rows d (rows_at (T.named tables.now) d) right.now) }
+    ensures size_left { IfOk result (λ i. length (rel_of i.left) ≤ plan_size (sizes_of (T.named tables.now)) left.now) }
+    ensures size_right { IfOk result (λ i. length (rel_of i.right) ≤ plan_size (sizes_of (T.named tables.now)) right.now) }
+{
+    let left = answer_of(rt, alloc, left.get(), tables, workers, gate)?;
+    let right = answer_of(rt, alloc, right.get(), tables, workers, gate)?;
+    Ok(Inputs { left, right })
 }

@@ -47,7 +47,9 @@ pub fn answer<H: Threads + Sync, T: Catalog + Tables<Row>, G: Gate + Sync>(
     fitting_rows();
     order_of_rows();
     let plan = plan_of(alloc, query)?;
-    let rel = exec(rt, alloc, &plan, tables, workers, gate)?;
+    let made = exec(rt, alloc, &plan, tables, workers, gate);
+    drop(plan);
+    let rel = made?;
     rel.some_days();
     Ok(rel)
 }

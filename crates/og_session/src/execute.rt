@@ -41,7 +41,6 @@ pub fn execute<H: Threads + Sync, G: Gate + Sync>(
         Typed::Insert { name, rows } => insert(alloc, &name, rows, db),
         other => {
             let done = change(rt, alloc, &other, workers, gate, db);
-            // By one call, since a drop of each kind of statement in place is dear to prove.
             drop(other);
             done
         }

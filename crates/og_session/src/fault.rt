@@ -70,26 +70,19 @@ impl Fault {
     pub fn line(&self, alloc: Global) -> Result<String, NoMemory>
         ensures { IfOk result (λ line. string_bytes line ≡ fault_line self.now) }
     {
-        let line = match self {
-            Fault::Words => String::from_str(alloc, "fault words\n")?,
-            Fault::SourceTooLong => String::from_str(alloc, "fault source too long\n")?,
-            Fault::BadByte { offset } => format!(in alloc; "fault byte at {offset}\n")?,
-            Fault::OpenText { offset } => format!(in alloc; "fault open text at {offset}\n")?,
-            Fault::NumberRange { offset } => {
-                format!(in alloc; "fault number range at {offset}\n")?
-            }
-            Fault::Syntax { statement } => {
-                format!(in alloc; "fault syntax statement {statement}\n")?
-            }
+        match self {
+            Fault::Words => Ok(String::from_str(alloc, "fault words\n")?),
+            Fault::SourceTooLong => Ok(String::from_str(alloc, "fault source too long\n")?),
+            Fault::BadByte { offset } => numbered(alloc, "fault byte at ", *offset),
+            Fault::OpenText { offset } => numbered(alloc, "fault open text at ", *offset),
+            Fault::NumberRange { offset } => numbered(alloc, "fault number range at ", *offset),
+            Fault::Syntax { statement } => numbered(alloc, "fault syntax statement ", *statement),
             Fault::TooDeep { statement } => {
-                format!(in alloc; "fault too deep statement {statement}\n")?
+                numbered(alloc, "fault too deep statement ", *statement)
             }
-            Fault::Literal { statement } => {
-                format!(in alloc; "fault literal statement {statement}\n")?
-            }
-            Fault::Check { statement, refusal } => check_line(alloc, *statement, refusal)?,
-        };
-        Ok(line)
+            Fault::Literal { statement } => numbered(alloc, "fault literal statement ", *statement),
+            Fault::Check { statement, refusal } => check_line(alloc, *statement, refusal),
+        }
     }
 
     /// The exit status.
@@ -150,6 +143,14 @@ fn check_line(alloc: Global, statement: usize, refusal: &CheckRefusal) -> Result
         CheckRefusal::TooMany { found, limit } => many_line(alloc, statement, *found, *limit),
         CheckRefusal::NoMemory => Ok(String::new(alloc)),
     }
+}
+
+// A line that ends with a number.
+fn numbered(alloc: Global, words: &str, number: usize) -> Result<String, NoMemory>
+    ensures { IfOk result (λ line. string_bytes line ≡ lines.numbered words.now number) }
+{
+    let line = format!(in alloc; "{words}{number}\n")?;
+    Ok(line)
 }
 
 // A line with the number of a statement, and what follows it.

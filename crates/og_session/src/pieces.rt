@@ -125,6 +125,8 @@ fn put_plan<K: Sink>(alloc: Global, query: &Query, out: &mut K) -> Result<(), Pu
 {
     fitting_queries();
     let plan = plan_of(alloc, query)?;
-    let lines = plan_lines(alloc, &plan)?;
+    let made = plan_lines(alloc, &plan);
+    drop(plan);
+    let lines = made?;
     put_lines(alloc, lines.as_slice(), out)
 }

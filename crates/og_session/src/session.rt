@@ -102,7 +102,10 @@ fn run_to_end<H: Threads + Sync, S: Source, K: Sink>(
     let Some(fault) = fault_of(&end) else {
         return end;
     };
-    report(alloc, fault, out)?;
+    if let Err(refusal) = report(alloc, fault, out) {
+        drop(end);
+        return Err(Stop::from(refusal));
+    }
     end
 }
 

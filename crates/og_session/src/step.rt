@@ -98,7 +98,6 @@ fn done<H: Threads + Sync, K: Sink>(
     ensures write_fault { result ≡ Err Stop.WriteFault → Rose (K.faults out.old) (K.faults out.new) }
 {
     if let Err(refusal) = put_piece(rt, alloc, &typed, workers, db, out) {
-        // By one call, since a drop of each kind of statement in place is dear to prove.
         drop(typed);
         return Err(Stop::from(refusal));
     }

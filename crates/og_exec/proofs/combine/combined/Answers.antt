@@ -1,26 +1,20 @@
-use Rattle.std.proofs.Common.{◌≡◌, ℤ, IfOk, sym, subst}
+use Rattle.std.proofs.Common.{◌≡◌, ◌≤◌, ℤ, length, subst₂, ap₂, ◌∙◌}
+use Rattle.std.proofs.lemmas.Result.{IfOk-weaker}
 use Rattle.og_base.specs.Calendar.{IsRefDay}
-use Rattle.og_rel.specs.Algebra.{union, except, intersect}
-use Rattle.og_rel.specs.Relations.{relation_at}
-use Rattle.og_value.specs.Values.{row_at}
-use Rattle.og_query.specs.Queries.{combined}
+use Rattle.og_query.specs.Queries as meant
+use Rattle.og_query.specs.Sizes.{combined_size}
+use Rattle.og_exec.specs.Answers.{rel_of}
 use Rattle.og_exec.specs.Tables.{rows_on}
+use Rattle.og_exec.proofs.AnswerLemmas.{of_made}
 use Rattle.og_exec.proofs.combine.combined.Goals as goal
 
-pub returns-in-Union-clause-law : goal.returns-in-Union-clause-law
-returns-in-Union-clause-law c =
-    subst (λ op. IfOk c.apply.result (λ r. (d : ℤ) → IsRefDay d → rows_on r d ≡ combined op (rows_on c.args.left.now d) (rows_on c.args.right.now d))) (sym c.in-Union.is)
-    (subst (λ order. IfOk c.apply.result (λ r. (d : ℤ) → IsRefDay d → relation_at order row_at r d ≡ union order (relation_at order row_at c.args.left.now d) (relation_at order row_at c.args.right.now d)))
-    (λ i x y. c.order_of_rows.ensures.order x y i) c.apply.ensures.law)
+pub returns-clause-law : goal.returns-clause-law
+returns-clause-law c =
+    of_made (λ rel. (d : ℤ) → IsRefDay d → rows_on rel d ≡ meant.combined c.args.op (rows_on (rel_of c.args.inputs.left) d) (rows_on (rel_of c.args.inputs.right) d)) _ _ c.made.ensures
+    (IfOk-weaker c.applied.result _ _
+    (λ r law d day. law d day ∙ ap₂ (λ left right. meant.combined c.args.op (rows_on left d) (rows_on right d)) c.rel.ensures c.rel-2.ensures) c.applied.ensures.law)
 
-pub returns-in-Except-clause-law : goal.returns-in-Except-clause-law
-returns-in-Except-clause-law c =
-    subst (λ op. IfOk c.apply-in-Except.result (λ r. (d : ℤ) → IsRefDay d → rows_on r d ≡ combined op (rows_on c.args.left.now d) (rows_on c.args.right.now d))) (sym c.in-Except.is)
-    (subst (λ order. IfOk c.apply-in-Except.result (λ r. (d : ℤ) → IsRefDay d → relation_at order row_at r d ≡ except order (relation_at order row_at c.args.left.now d) (relation_at order row_at c.args.right.now d)))
-    (λ i x y. c.order_of_rows.ensures.order x y i) c.apply-in-Except.ensures.law)
-
-pub returns-in-Intersect-clause-law : goal.returns-in-Intersect-clause-law
-returns-in-Intersect-clause-law c =
-    subst (λ op. IfOk c.apply-in-Intersect.result (λ r. (d : ℤ) → IsRefDay d → rows_on r d ≡ combined op (rows_on c.args.left.now d) (rows_on c.args.right.now d))) (sym c.in-Intersect.is)
-    (subst (λ order. IfOk c.apply-in-Intersect.result (λ r. (d : ℤ) → IsRefDay d → relation_at order row_at r d ≡ intersect order (relation_at order row_at c.args.left.now d) (relation_at order row_at c.args.right.now d)))
-    (λ i x y. c.order_of_rows.ensures.order x y i) c.apply-in-Intersect.ensures.law)
+pub returns-clause-size : goal.returns-clause-size
+returns-clause-size c =
+    of_made (λ rel. length rel ≤ combined_size c.args.op (length (rel_of c.args.inputs.left)) (length (rel_of c.args.inputs.right))) _ _ c.made.ensures
+    (IfOk-weaker c.applied.result _ _ (λ r size. subst₂ (λ left right. length r ≤ combined_size c.args.op (length left) (length right)) c.rel.ensures c.rel-2.ensures size) c.applied.ensures.size)

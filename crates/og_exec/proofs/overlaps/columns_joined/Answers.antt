@@ -6,10 +6,7 @@ use Rattle.og_base.specs.Set.{set_of}
 use Rattle.og_join.specs.Joined.{joined}
 use Rattle.og_rel.specs.Relations.{relation_at}
 use Rattle.og_value.specs.Values.{row_at}
-use Rattle.og_value.specs.declared.term.Pred.TheVariants as pred
 use Rattle.og_query.specs.Conditions.{truth}
-use Rattle.og_query.specs.declared.condition.Cond.TheVariants as cond
-use Rattle.og_query.specs.declared.expression.Expr.TheVariants as expr
 use Rattle.og_plan.specs.Meaning.{all_hold}
 use Rattle.og_exec.specs.Tables.{rows_on}
 use Rattle.og_exec.proofs.SpanLemmas.{columns_told, condition_is, already_said, now_said}
@@ -20,15 +17,15 @@ overlap_join-requires-clause-told g c κs within =
     columns_told c.args.left.now c.args.right.now c.args.width c.args.place c.args.spans.now.pair.now c.args.spans.now.known (λ d row. all_hold d c.args.rest.now row)
     c.requires.within c.requires.place c.requires.known (c.if-say_overlap.ensures refl)
 
-pub overlap_join-requires-2-clause-told : goal.overlap_join-requires-2-clause-told
-overlap_join-requires-2-clause-told g c κs within =
+pub overlap_join-joined-requires-clause-told : goal.overlap_join-joined-requires-clause-told
+overlap_join-joined-requires-clause-told g c κs within =
     let a = c.args.spans.now.pair.now.left in
     let b = c.args.place in
     columns_told c.args.left.now c.args.right.now c.args.width b c.args.spans.now.pair.now c.args.spans.now.known
-    (λ d row. truth d row (cond.Relate pred.Overlaps (expr.Column a) (expr.Column b)) && all_hold d c.args.rest.now row)
+    (λ d row. truth d row c.overlap_of-overlap.result && all_hold d c.args.rest.now row)
     c.requires.within c.requires.place c.requires.known
-    (λ d row h. condition_is (cond.Relate pred.Overlaps (expr.Column a) (expr.Column b)) a b refl d row
-    ∙ (and_parts (truth d row (cond.Relate pred.Overlaps (expr.Column a) (expr.Column b))) (all_hold d c.args.rest.now row) h).0)
+    (λ d row h. condition_is c.overlap_of-overlap.result a b c.overlap_of-overlap.ensures d row
+    ∙ (and_parts (truth d row c.overlap_of-overlap.result) (all_hold d c.args.rest.now row) h).0)
 
 pub returns-then-say_overlap-clause-law : goal.returns-then-say_overlap-clause-law
 returns-then-say_overlap-clause-law g c =
@@ -46,10 +43,10 @@ returns-clause-law g c =
     let rest = c.args.rest.now in
     let a = c.args.spans.now.pair.now.left in
     let b = c.args.place in
-    IfOk-weaker c.overlap_join-2.result _ _
+    IfOk-weaker c.overlap_join-joined.result _ _
     (λ r law d day. law d day
-    ∙ now_said d (cond.Relate pred.Overlaps (expr.Column a) (expr.Column b)) rest a b refl (rows_on c.args.left.now d) (rows_on c.args.right.now d))
-    (subst (λ order. IfOk c.overlap_join-2.result (λ r. (d : ℤ) → IsRefDay d
+    ∙ now_said d c.overlap_of-overlap.result rest a b c.overlap_of-overlap.ensures (rows_on c.args.left.now d) (rows_on c.args.right.now d))
+    (subst (λ order. IfOk c.overlap_join-joined.result (λ r. (d : ℤ) → IsRefDay d
     → relation_at order row_at r d
-    ≡ set_of order (joined (λ x y. x ++ y) (λ x y. truth d (x ++ y) (cond.Relate pred.Overlaps (expr.Column a) (expr.Column b)) && all_hold d rest (x ++ y)) (relation_at order row_at c.args.left.now d) (relation_at order row_at c.args.right.now d))))
-    (λ i x y. c.order_of_rows.ensures.order x y i) c.overlap_join-2.ensures.law)
+    ≡ set_of order (joined (λ x y. x ++ y) (λ x y. truth d (x ++ y) c.overlap_of-overlap.result && all_hold d rest (x ++ y)) (relation_at order row_at c.args.left.now d) (relation_at order row_at c.args.right.now d))))
+    (λ i x y. c.order_of_rows.ensures.order x y i) c.overlap_join-joined.ensures.law)

@@ -1,17 +1,23 @@
-use Rattle.std.proofs.Common.{sym, ap, ◌∙◌, arith}
+use Rattle.std.proofs.Common.{◌≡◌, ◌≤◌, ◌*◌, ◌++◌, ◌&&◌, ℤ, length, sym, ap₂, subst, subst₂, ◌∙◌}
+use Rattle.std.specs.List.{All}
 use Rattle.std.proofs.lemmas.Result.{IfOk-weaker}
+use Rattle.og_base.specs.Calendar.{IsRefDay}
+use Rattle.og_plan.specs.Meaning.{all_hold, do_overlap, matches}
+use Rattle.og_exec.specs.Answers.{rel_of}
 use Rattle.og_exec.specs.Tables.{rows_on}
-use Rattle.og_exec.proofs.SpanLemmas.{columns_of_pair, no_column}
+use Rattle.og_exec.proofs.AnswerLemmas.{of_made}
 use Rattle.og_exec.proofs.overlaps.overlap_joined.Goals as goal
-
-pub returns-then-pair-width-clause-law : goal.returns-then-pair-width-clause-law
-returns-then-pair-width-clause-law g c d day wide =
-    ap (λ rel. rows_on rel d) c.new.ensures
-    ∙ sym (no_column d c.args.width c.args.pair.now c.args.rest.now (rows_on c.args.left.now d) (rows_on c.args.right.now d) (omega (arith, c.if-pair-width.true)) wide)
 
 pub returns-clause-law : goal.returns-clause-law
 returns-clause-law g c =
-    IfOk-weaker c.columns_joined.result _ _
-    (λ r law d day wide. law d day
-    ∙ columns_of_pair d c.args.width c.in_ok-place.place c.args.pair.now c.args.rest.now (rows_on c.args.left.now d) (rows_on c.args.right.now d)
-    c.in_ok-place.ensures (omega (arith, c.if-pair-width.false)) wide) c.columns_joined.ensures.law
+    of_made (λ rel. (d : ℤ) → IsRefDay d → All (λ x. length x ≡ c.args.width) (rows_on (rel_of c.args.inputs.left) d) → rows_on rel d
+    ≡ matches (λ x y. do_overlap x y c.args.pair.now && all_hold d c.args.rest.now (x ++ y)) (rows_on (rel_of c.args.inputs.left) d) (rows_on (rel_of c.args.inputs.right) d)) _ _ c.made.ensures
+    (IfOk-weaker c.pair_joined.result _ _
+    (λ r law d day wide. law d day (subst (λ rel. All (λ x. length x ≡ c.args.width) (rows_on rel d)) (sym c.rel.ensures) wide)
+    ∙ ap₂ (λ left right. matches (λ x y. do_overlap x y c.args.pair.now && all_hold d c.args.rest.now (x ++ y)) (rows_on left d) (rows_on right d)) c.rel.ensures c.rel-2.ensures)
+    c.pair_joined.ensures.law)
+
+pub returns-clause-size : goal.returns-clause-size
+returns-clause-size g c =
+    of_made (λ rel. length rel ≤ length (rel_of c.args.inputs.left) * length (rel_of c.args.inputs.right)) _ _ c.made.ensures
+    (IfOk-weaker c.pair_joined.result _ _ (λ r size. subst₂ (λ left right. length r ≤ length left * length right) c.rel.ensures c.rel-2.ensures size) c.pair_joined.ensures.size)

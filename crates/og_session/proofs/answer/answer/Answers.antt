@@ -15,8 +15,8 @@ use Rattle.og_session.proofs.answer.answer.Goals as goal
 pub plan_of-requires-clause-range : goal.plan_of-requires-clause-range
 plan_of-requires-clause-range g c = c.fitting_queries.ensures.range (schemas_of (g.T.Catalog.known c.args.tables.now)) c.args.query.now c.requires.fits
 
-pub exec-requires-clause-tables : goal.exec-requires-clause-tables
-exec-requires-clause-tables g c κs within =
+pub exec-made-requires-clause-tables : goal.exec-made-requires-clause-tables
+exec-made-requires-clause-tables g c κs within =
     let known = g.T.Catalog.known c.args.tables.now in
     let named = g.T.Tables.named c.args.tables.now in
     subst (AreThere named) (sym c.in_ok-plan.ensures.scans)
