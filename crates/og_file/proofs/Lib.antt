@@ -1,0 +1,4 @@
+pub mod CellLemmas
+pub mod Finds
+pub mod NameLemmas
+pub mod TableLemmas

@@ -1,0 +1,3 @@
+pub mod Readers
+pub mod Records
+pub mod TableFile

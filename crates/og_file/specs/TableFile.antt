@@ -1,0 +1,46 @@
+-- Table files: the names of the columns, and then a record for each row.
+use Rattle.std.specs.Prelude.{◌≡◌, ◌⊎◌, ◌++◌, ◌+◌, ◌∷◌, [], ℕ, List, length, map}
+use Rattle.og_value.specs.Cells.{IsCell}
+use Rattle.og_value.specs.Words.{folded}
+use Rattle.og_value.specs.declared.schema.Column.{Column}
+use Rattle.og_value.specs.declared.value.Value.{Value}
+use Rattle.og_file.specs.Records.{Record, AreAll, Begins}
+use Rattle.og_file.specs.declared.refusal.FileRefusal.{FileRefusal}
+use Rattle.og_file.specs.declared.refusal.FileRefusal.TheVariants as refused
+
+-- the names of the columns, in letters of any case
+abbrev pub HasNames : List Column → Record → Type 0
+HasNames columns fields = map folded fields ≡ map (λ c. c.name) columns
+
+-- a cell for each column, with its value
+abbrev pub AreCells : List Column → Record → List Value → Type 0
+AreCells [] [] [] = Unit {0}
+AreCells (c ∷ cs) (f ∷ fs) (x ∷ xs) = IsCell c.kind f x × AreCells cs fs xs
+AreCells _ _ _ = ⊥
+
+-- a record for each row
+abbrev pub AreRows : List Column → List Record → List (List Value) → Type 0
+AreRows columns [] [] = Unit {0}
+AreRows columns (r ∷ rs) (x ∷ xs) = AreCells columns r x × AreRows columns rs xs
+AreRows columns _ _ = ⊥
+
+-- the bytes are a table file of these rows
+abbrev pub IsTableFile : List Column → List ℕ → List (List Value) → Type 0
+IsTableFile columns bytes rows =
+    (names : Record) × (records : List Record) × AreAll bytes (names ∷ records) × HasNames columns names × AreRows columns records rows
+
+-- the record with this number is no row
+abbrev pub IsRowFault : List Column → Record → ℕ → FileRefusal → Type 0
+IsRowFault columns fields number refused.Header = ⊥
+IsRowFault columns fields number (refused.Cell found) = (found ≡ number) × ((values : List Value) → ¬ AreCells columns fields values)
+IsRowFault columns fields number (refused.RowCount said found) = ⊥
+IsRowFault columns fields number refused.NoMemory = Unit {0}
+
+-- the bytes are no table file, for the first reason that applies
+abbrev pub IsTableFault : List Column → List ℕ → FileRefusal → Type 0
+IsTableFault columns bytes refused.Header = AreAll bytes [] ⊎ ((names : Record) × Begins bytes (names ∷ []) × ¬ HasNames columns names)
+IsTableFault columns bytes (refused.Cell number) =
+    (names : Record) × (before : List Record) × (fields : Record) × (rows : List (List Value)) × Begins bytes (names ∷ before ++ fields ∷ [])
+    × HasNames columns names × AreRows columns before rows × ((values : List Value) → ¬ AreCells columns fields values) × (number ≡ length before + 2)
+IsTableFault columns bytes (refused.RowCount said found) = ⊥
+IsTableFault columns bytes refused.NoMemory = Unit {0}
