@@ -1,5 +1,5 @@
 -- The records of a file, as the crate csv reads them. A byte order mark at the front is no part of them.
-use Rattle.std.specs.Prelude.{ℕ, List}
+use Rattle.std.specs.Prelude.{ℕ, List, [], ◌∷◌}
 use Rattle.csv.specs.Reading.{default_config, strip_bom, Reached, AreRecords}
 use Rattle.csv.specs.declared.parser.State.{State}
 use Rattle.csv.specs.declared.parser.State.TheVariants as st
@@ -15,3 +15,9 @@ AreAll bytes records = AreRecords default_config st.StartRecord (strip_bom bytes
 -- these are the first records of the bytes
 abbrev pub Begins : List ℕ → List Record → Type 0
 Begins bytes records = (state : State) × (rest : List ℕ) × Reached default_config st.StartRecord (strip_bom bytes) records state rest
+
+-- each record is so of its value, in order
+abbrev pub Each : {A : Type 0} → (Record → A → Type 0) → List Record → List A → Type 0
+Each is [] [] = Unit {0}
+Each is (r ∷ rs) (x ∷ xs) = is r x × Each is rs xs
+Each is _ _ = ⊥

@@ -4,7 +4,7 @@ use Rattle.og_value.specs.Cells.{IsCell}
 use Rattle.og_value.specs.Words.{folded}
 use Rattle.og_value.specs.declared.schema.Column.{Column}
 use Rattle.og_value.specs.declared.value.Value.{Value}
-use Rattle.og_file.specs.Records.{Record, AreAll, Begins}
+use Rattle.og_file.specs.Records.{Record, AreAll, Begins, Each}
 use Rattle.og_file.specs.declared.refusal.FileRefusal.{FileRefusal}
 use Rattle.og_file.specs.declared.refusal.FileRefusal.TheVariants as refused
 
@@ -18,16 +18,10 @@ AreCells [] [] [] = Unit {0}
 AreCells (c ∷ cs) (f ∷ fs) (x ∷ xs) = IsCell c.kind f x × AreCells cs fs xs
 AreCells _ _ _ = ⊥
 
--- a record for each row
-abbrev pub AreRows : List Column → List Record → List (List Value) → Type 0
-AreRows columns [] [] = Unit {0}
-AreRows columns (r ∷ rs) (x ∷ xs) = AreCells columns r x × AreRows columns rs xs
-AreRows columns _ _ = ⊥
-
 -- the bytes are a table file of these rows
 abbrev pub IsTableFile : List Column → List ℕ → List (List Value) → Type 0
 IsTableFile columns bytes rows =
-    (names : Record) × (records : List Record) × AreAll bytes (names ∷ records) × HasNames columns names × AreRows columns records rows
+    (names : Record) × (records : List Record) × AreAll bytes (names ∷ records) × HasNames columns names × Each (AreCells columns) records rows
 
 -- the record with this number is no row
 abbrev pub IsRowFault : List Column → Record → ℕ → FileRefusal → Type 0
@@ -41,6 +35,6 @@ abbrev pub IsTableFault : List Column → List ℕ → FileRefusal → Type 0
 IsTableFault columns bytes refused.Header = AreAll bytes [] ⊎ ((names : Record) × Begins bytes (names ∷ []) × ¬ HasNames columns names)
 IsTableFault columns bytes (refused.Cell number) =
     (names : Record) × (before : List Record) × (fields : Record) × (rows : List (List Value)) × Begins bytes (names ∷ before ++ fields ∷ [])
-    × HasNames columns names × AreRows columns before rows × ((values : List Value) → ¬ AreCells columns fields values) × (number ≡ length before + 2)
+    × HasNames columns names × Each (AreCells columns) before rows × ((values : List Value) → ¬ AreCells columns fields values) × (number ≡ length before + 2)
 IsTableFault columns bytes (refused.RowCount said found) = ⊥
 IsTableFault columns bytes refused.NoMemory = Unit {0}

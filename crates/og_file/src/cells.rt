@@ -13,14 +13,14 @@ use std::alloc::Global;
 pub(crate) fn cells_of(
     alloc: Global,
     schema: &Schema,
-    record: &ByteRecord,
+    fields: &ByteRecord,
 ) -> Result<Row, CellRefusal>
-    ensures cells { IfOk result (λ row. AreCells schema.now (take (length schema.now) (fields_of record.now)) row) }
-    ensures none { result ≡ Err CellRefusal.NotACell → (row : List values.Value) → ¬ AreCells schema.now (take (length schema.now) (fields_of record.now)) row }
+    ensures cells { IfOk result (λ row. AreCells schema.now (take (length schema.now) (fields_of fields.now)) row) }
+    ensures none { result ≡ Err CellRefusal.NotACell → (row : List values.Value) → ¬ AreCells schema.now (take (length schema.now) (fields_of fields.now)) row }
 {
     let mut values = Vec::new(alloc);
     'columns: for i in 0..schema.len() {
-        let Some(field) = record.get(i) else {
+        let Some(field) = fields.get(i) else {
             return Err(CellRefusal::NotACell);
         };
         let value = read_cell(alloc, schema.column(i).kind, field)?;

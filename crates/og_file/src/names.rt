@@ -9,14 +9,14 @@ use csv::ByteRecord;
 use og_value::{Name, Schema};
 
 // Whether the record has the names of the columns, in letters of any case.
-pub(crate) fn has_names(schema: &Schema, record: &ByteRecord) -> bool
-    ensures { Decides result (HasNames schema.now (fields_of record.now)) }
+pub(crate) fn has_names(schema: &Schema, fields: &ByteRecord) -> bool
+    ensures { Decides result (HasNames schema.now (fields_of fields.now)) }
 {
-    if record.len() != schema.len() {
+    if fields.len() != schema.len() {
         return false;
     }
     'columns: for i in 0..schema.len() {
-        let Some(field) = record.get(i) else {
+        let Some(field) = fields.get(i) else {
             return false;
         };
         if !is_name(&schema.column(i).name, field) {

@@ -22,11 +22,11 @@ pub(crate) fn reader_of(alloc: Global, bytes: &[u8]) -> Reader<&[u8]>
 // for want of memory.
 pub(crate) fn read_next(
     reader: &mut Reader<&[u8]>,
-    record: &mut ByteRecord,
+    fields: &mut ByteRecord,
 ) -> Result<bool, NoMemory>
-    ensures { IfOk result (λ found. (bytes : List ℕ) (before : List Record) → HasRead bytes before reader.old → HasFound bytes before found (fields_of record.new) reader.new) }
+    ensures { IfOk result (λ found. (bytes : List ℕ) (before : List Record) → HasRead bytes before reader.old → HasFound bytes before found (fields_of fields.new) reader.new) }
 {
-    let Ok(found) = reader.read_byte_record(record) else {
+    let Ok(found) = reader.read_byte_record(fields) else {
         return Err(NoMemory);
     };
     Ok(found)

@@ -26,14 +26,14 @@ pub fn read_table(
     ensures fault { IfErr result (IsTableFault schema.now bytes.now) }
 {
     let mut reader = reader_of(alloc, bytes);
-    let mut record = ByteRecord::new(alloc);
-    if !read_next(&mut reader, &mut record)? {
+    let mut fields = ByteRecord::new(alloc);
+    if !read_next(&mut reader, &mut fields)? {
         return Err(FileRefusal::Header);
     }
-    if !has_names(schema, &record) {
+    if !has_names(schema, &fields) {
         return Err(FileRefusal::Header);
     }
-    table_rows(alloc, schema, &mut reader, &mut record)
+    table_rows(alloc, schema, &mut reader, &mut fields)
 }
 
 // The rows of the records behind that of the names, which the reader has read.
@@ -41,17 +41,17 @@ fn table_rows(
     alloc: Global,
     schema: &Schema,
     reader: &mut Reader<&[u8]>,
-    record: &mut ByteRecord,
+    fields: &mut ByteRecord,
 ) -> Result<Vec<Row>, FileRefusal>
     ensures rows { IfOk result (λ rows. (bytes : List ℕ) (names : Record) → HasRead bytes (names ∷ []) reader.old → HasNames schema.now names → IsTableFile schema.now bytes rows.items) }
     ensures fault { IfErr result (λ e. (bytes : List ℕ) (names : Record) → HasRead bytes (names ∷ []) reader.old → HasNames schema.now names → IsTableFault schema.now bytes e) }
 {
     let mut rows = Vec::new(alloc);
     'records: for _ in 0..u64::MAX {
-        if !read_next(reader, record)? {
+        if !read_next(reader, fields)? {
             return Ok(rows);
         }
-        let row = table_row(alloc, schema, record, rows.len() as u64 + 2)?;
+        let row = table_row(alloc, schema, fields, rows.len() as u64 + 2)?;
         rows.push(row)?;
     }
     Err(FileRefusal::NoMemory)
@@ -61,16 +61,16 @@ fn table_rows(
 fn table_row(
     alloc: Global,
     schema: &Schema,
-    record: &ByteRecord,
+    fields: &ByteRecord,
     number: u64,
 ) -> Result<Row, FileRefusal>
-    ensures row { IfOk result (AreCells schema.now (fields_of record.now)) }
-    ensures fault { IfErr result (IsRowFault schema.now (fields_of record.now) number) }
+    ensures row { IfOk result (AreCells schema.now (fields_of fields.now)) }
+    ensures fault { IfErr result (IsRowFault schema.now (fields_of fields.now) number) }
 {
-    if record.len() != schema.len() {
+    if fields.len() != schema.len() {
         return Err(FileRefusal::Cell { number });
     }
-    match cells_of(alloc, schema, record) {
+    match cells_of(alloc, schema, fields) {
         Ok(row) => Ok(row),
         Err(CellRefusal::NotACell) => Err(FileRefusal::Cell { number }),
         Err(CellRefusal::NoMemory) => Err(FileRefusal::NoMemory),

@@ -4,4 +4,4 @@ use Rattle.og_file.specs.TableFile.{HasNames}
 use Rattle.og_file.proofs.names.has_names.Given as goal
 
 abbrev pub invariant-columns : goal.invariant-columns
-invariant-columns l = HasNames (take l.i l.schema) (take l.i (fields_of l.record))
+invariant-columns l = HasNames (take l.i l.schema) (take l.i (fields_of l.fields))

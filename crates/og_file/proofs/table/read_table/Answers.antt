@@ -9,7 +9,7 @@ returns-then-not-branch-clause-fault c = inl (rw c.if-not-branch.true at (c.in_o
 
 pub returns-then-not-has_names-clause-fault : goal.returns-then-not-has_names-clause-fault
 returns-then-not-has_names-clause-fault c =
-    let fields = fields_of c.read_next.new.record in
+    let fields = fields_of c.read_next.new.fields in
     inr (
       fields,
       begins c.args.bytes.now (fields ∷ []) c.read_next.new.reader (rw c.if-not-branch.false at (c.in_ok-read_next.ensures c.args.bytes.now [] c.reader_of-reader.ensures)),
@@ -18,12 +18,12 @@ returns-then-not-has_names-clause-fault c =
 
 pub returns-clause-rows : goal.returns-clause-rows
 returns-clause-rows c =
-    let fields = fields_of c.read_next.new.record in
+    let fields = fields_of c.read_next.new.fields in
     let has = rw c.if-not-branch.false at (c.in_ok-read_next.ensures c.args.bytes.now [] c.reader_of-reader.ensures) in
     IfOk-weaker c.table_rows.result _ _ (λ rows are. are c.args.bytes.now fields has (c.has_names.ensures.0 c.if-not-has_names.false)) c.table_rows.ensures.rows
 
 pub returns-clause-fault : goal.returns-clause-fault
 returns-clause-fault c =
-    let fields = fields_of c.read_next.new.record in
+    let fields = fields_of c.read_next.new.fields in
     let has = rw c.if-not-branch.false at (c.in_ok-read_next.ensures c.args.bytes.now [] c.reader_of-reader.ensures) in
     IfErr-weaker c.table_rows.result _ _ (λ e fault. fault c.args.bytes.now fields has (c.has_names.ensures.0 c.if-not-has_names.false)) c.table_rows.ensures.fault
