@@ -1,0 +1,7 @@
+pub mod CellLemmas
+pub mod Finds
+pub mod HeaderLemmas
+pub mod NameLemmas
+pub mod RowLemmas
+pub mod SavedLemmas
+pub mod TableLemmas

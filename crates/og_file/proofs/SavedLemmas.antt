@@ -1,0 +1,77 @@
+-- The records of saved files.
+use Rattle.std.proofs.Common.{Bor, ◌≡◌, ◌∙◌, ◌+◌, ◌-◌, ◌≤◌, ℕ, zero, suc, List, [], ◌∷◌, ◌++◌, Option, Some, None, length, take, refl, sym, ap, ap₂, subst, arith}
+use Rattle.std.specs.Option.{IfSome, IfNone}
+use Rattle.std.proofs.lemmas.List.{length-append}
+use Rattle.std.proofs.Math.Seq.{take-append_seam}
+use Rattle.csv.specs.Records.{field_at}
+use Rattle.og_value.specs.declared.schema.Column.{Column}
+use Rattle.og_file.proofs.CellLemmas.{next_field}
+use Rattle.og_file.specs.Records.{Record}
+use Rattle.og_file.specs.SavedFile.{AreSchema, IsCount, IsHeader}
+use Rattle.og_file.specs.SavedParts.{IsEnd}
+
+-- a record of one field
+pub alone : (fs : Record) (f : List ℕ) → length fs ≡ 1 → field_at fs 0 ≡ Some f → fs ≡ f ∷ []
+unfolding field_at
+alone [] f long at = cc at
+alone (x ∷ []) f long at = let same : x ≡ f = cc at in ap (λ z. z ∷ []) same
+alone (x ∷ y ∷ fs) f long at = absurd (two_or_more (length fs) long)
+  where
+    two_or_more : (n : ℕ) → suc (suc n) ≡ 1 → ⊥
+    two_or_more n e = omega (arith, e)
+
+-- no record of one field lacks it
+pub not_alone : (fs : Record) → length fs ≡ 1 → field_at fs 0 ≡ None → ⊥
+unfolding field_at
+not_alone [] long at = cc long
+not_alone (x ∷ fs) long at = cc at
+
+at_end : (fields : Record) (field : List ℕ) → field_at (fields ++ field ∷ []) (length fields) ≡ Some field
+unfolding field_at
+at_end [] field = refl
+at_end (f ∷ fs) field = at_end fs field
+
+-- the place of the last field, and those before it
+pub before_end : (fs fields : Record) (field : List ℕ) (last : ℕ) → fs ≡ fields ++ field ∷ [] → length fs ≡ last + 1 → length fields ≡ last
+before_end fs fields field last is long = one_less (length fields) last (sym (length-append fields (field ∷ [])) ∙ sym (ap length is) ∙ long)
+  where
+    one_less : (n m : ℕ) → n + 1 ≡ m + 1 → n ≡ m
+    one_less n m e = omega (arith, e)
+
+-- the last field stands at the last place
+pub there : (fs fields : Record) (field : List ℕ) (last : ℕ) → fs ≡ fields ++ field ∷ [] → length fs ≡ last + 1 → field_at fs last ≡ Some field
+there fs fields field last is long = ap₂ field_at is (sym (before_end fs fields field last is long)) ∙ at_end fields field
+
+-- and no other does
+pub end_is : (fs fields : Record) (field f : List ℕ) (last : ℕ) → fs ≡ fields ++ field ∷ [] → length fs ≡ last + 1 → field_at fs last ≡ Some f → field ≡ f
+end_is fs fields field f last is long at = cc (sym (there fs fields field last is long) ∙ at)
+
+-- and the others are before it
+pub front_is : (fs fields : Record) (field : List ℕ) (last : ℕ) → fs ≡ fields ++ field ∷ [] → length fs ≡ last + 1 → take last fs ≡ fields
+front_is fs fields field last is long = ap₂ take (sym (before_end fs fields field last is long)) is ∙ take-append_seam fields (field ∷ [])
+
+take_whole : (fs : Record) → take (length fs) fs ≡ fs
+take_whole [] = refl
+take_whole (f ∷ fs) = ap (λ xs. f ∷ xs) (take_whole fs)
+
+-- a record is its first fields and the last one
+pub whole : (fs : Record) (last : ℕ) (f : List ℕ) → length fs ≡ last + 1 → field_at fs last ≡ Some f → fs ≡ take last fs ++ f ∷ []
+whole fs last f long at = sym (take_whole fs) ∙ ap (λ n. take n fs) long ∙ next_field fs last f at
+
+-- one more than one less
+pub one_more : (n last : ℕ) → (1 ≤ n) × (last ≡ n - 1) → n ≡ last + 1
+one_more n last below = go below.0 below.1
+  where
+    go : 1 ≤ n → last ≡ n - 1 → n ≡ last + 1
+    go some less = omega (arith, some, less)
+
+-- the count of the only field is that of the record
+pub end_some : (fs : Record) (f : List ℕ) → fs ≡ f ∷ [] → (found : Option ℕ) → IfSome found (λ count. IsCount f count) → IfSome found (IsEnd fs)
+end_some fs f only (Some count) is = (f, only, is)
+end_some fs f only None is = is
+
+pub end_none : (fs : Record) (f : List ℕ) → fs ≡ f ∷ [] → (found : Option ℕ) → IfNone found ((count : ℕ) → ¬ IsCount f count) → IfNone found ((count : ℕ) → ¬ IsEnd fs count)
+end_none fs f only (Some count) is = is
+end_none fs f only None is = λ count end.
+    let same : end.0 ≡ f = cc (sym end.1 ∙ only) in
+    is count (subst (λ g. IsCount g count) same end.2)

@@ -1,0 +1,5 @@
+pub mod Readers
+pub mod Records
+pub mod SavedFile
+pub mod SavedParts
+pub mod TableFile

@@ -1,0 +1,15 @@
+//! Files of tables.
+#![tactic(auto)]
+
+mod cells;
+mod header;
+mod names;
+mod records;
+mod refusal;
+mod rows;
+mod saved;
+mod table;
+
+pub use refusal::FileRefusal;
+pub use saved::{Saved, read_saved};
+pub use table::read_table;
