@@ -49,7 +49,8 @@ fn goes_on<H: Threads + Sync + AllocGlobal>(
     match check(rt.alloc(), stmt, db) {
         Ok(typed) => {
             let goes_on = take(rt, case, number, &typed, db, report);
-            // By one call, since a drop of each kind of statement in place is dear to prove.
+            // One call drops the typed statement, so that the fields of each of its kinds are not
+            // dropped one by one where this arm ends.
             drop(typed);
             goes_on
         }
