@@ -9,7 +9,9 @@ mod refusal;
 mod rows;
 mod saved;
 mod table;
+mod write;
 
 pub use refusal::FileRefusal;
 pub use saved::{Saved, read_saved};
 pub use table::read_table;
+pub use write::write_saved;
