@@ -1,5 +1,5 @@
 -- The records of saved files.
-use Rattle.std.proofs.Common.{Bor, ◌≡◌, ◌∙◌, ◌+◌, ◌-◌, ◌≤◌, ℕ, zero, suc, List, [], ◌∷◌, ◌++◌, Option, Some, None, length, take, refl, sym, ap, ap₂, subst, inl, inr, arith}
+use Rattle.std.proofs.Common.{◌≡◌, ◌≢◌, ◌∙◌, ◌+◌, ◌-◌, ◌≤◌, ℕ, zero, suc, List, [], ◌∷◌, ◌++◌, Option, Some, None, length, take, refl, sym, ap, ap₂, subst, inl, inr, arith}
 use Rattle.std.specs.Option.{IfSome, IfNone}
 use Rattle.std.proofs.lemmas.List.{length-append}
 use Rattle.std.proofs.Math.Seq.{take-append_seam}
@@ -10,10 +10,10 @@ use Rattle.og_file.specs.Records.{Record, Begins, Each}
 use Rattle.og_value.specs.Schemas.{IsSchema}
 use Rattle.og_value.specs.declared.value.Value.{Value}
 use Rattle.og_file.specs.TableFile.{AreCells}
-use Rattle.og_file.specs.SavedFile.{Pair, AreSchema, IsCount, IsHeader, IsNoRow, IsRow, IsSavedFault, mark, one, two}
+use Rattle.og_file.specs.SavedFile.{Pair, AreSchema, IsCount, IsHeader, IsNoRow, IsRow, IsSavedFault, IsSavedFile, mark, one, two}
 use Rattle.og_file.specs.declared.refusal.FileRefusal.{FileRefusal}
 use Rattle.og_file.specs.declared.refusal.FileRefusal.TheVariants as refused
-use Rattle.og_file.specs.SavedParts.{IsEnd, IsPairFault}
+use Rattle.og_file.specs.SavedParts.{IsEnd, IsPairFault, HasRowsOne, HasRowsTwo}
 
 -- a record of one field
 pub alone : (fs : Record) (f : List ℕ) → length fs ≡ 1 → field_at fs 0 ≡ Some f → fs ≡ f ∷ []
@@ -55,7 +55,8 @@ end_is fs fields field f last is long at = cc (sym (there fs fields field last i
 pub front_is : (fs fields : Record) (field : List ℕ) (last : ℕ) → fs ≡ fields ++ field ∷ [] → length fs ≡ last + 1 → take last fs ≡ fields
 front_is fs fields field last is long = ap₂ take (sym (before_end fs fields field last is long)) is ∙ take-append_seam fields (field ∷ [])
 
-take_whole : (fs : Record) → take (length fs) fs ≡ fs
+-- all fields
+pub take_whole : (fs : Record) → take (length fs) fs ≡ fs
 take_whole [] = refl
 take_whole (f ∷ fs) = ap (λ xs. f ∷ xs) (take_whole fs)
 
@@ -131,3 +132,25 @@ pub late_record : (bytes : List ℕ) (header : Record) (before : List Record) (f
     → Begins bytes (mark ∷ header ∷ before ++ fields ∷ []) → Begins bytes (mark ∷ header ∷ before ++ fields ∷ next ∷ []) → IsSavedFault bytes (refused.Cell number)
 late_record bytes header before fields next columns pairs count number is end has are begun further =
     inr (inl (header, before, fields, columns, pairs, begun, has, are, end_is_no_row columns fields count end has.1, inr (next, further), is))
+
+-- as many rows as the file says: of version 1, and of version 2
+pub one_file : (bytes : List ℕ) (header : Record) (columns cs : List Column) (pairs ps : List Pair) (count : ℕ)
+    → HasRowsOne bytes header columns pairs → IsHeader header columns count → (cs ≡ columns) × (ps ≡ pairs) × (count ≡ length pairs) → IsSavedFile bytes cs ps
+one_file bytes header columns cs pairs ps count has is same =
+    rw (same.0, same.1) (inl (header, has.0, has.1, rw (← same.2) is, has.2))
+
+pub two_file : (bytes : List ℕ) (header : Record) (columns cs : List Column) (pairs ps : List Pair) (count : ℕ)
+    → HasRowsTwo bytes header columns pairs count → AreSchema header columns → (cs ≡ columns) × (ps ≡ pairs) × (count ≡ length pairs) → IsSavedFile bytes cs ps
+two_file bytes header columns cs pairs ps count has is same =
+    rw (same.0, same.1) (inr (header, has.0, has.1, has.2, is, has.3, subst (λ n. IsCount has.1 n) same.2 has.4))
+
+-- another number of rows: of version 1, and of version 2
+pub one_count : (bytes : List ℕ) (header : Record) (columns : List Column) (pairs : List Pair) (said : ℕ) (e : FileRefusal)
+    → HasRowsOne bytes header columns pairs → IsHeader header columns said → (e ≡ refused.RowCount said (length pairs)) × (said ≢ length pairs) → IsSavedFault bytes e
+one_count bytes header columns pairs said e has is differ =
+    rw differ.0 (columns, pairs, inl (header, has.0, has.1, is, has.2), refl, differ.1)
+
+pub two_count : (bytes : List ℕ) (header : Record) (columns : List Column) (pairs : List Pair) (said : ℕ) (e : FileRefusal)
+    → HasRowsTwo bytes header columns pairs said → AreSchema header columns → (e ≡ refused.RowCount said (length pairs)) × (said ≢ length pairs) → IsSavedFault bytes e
+two_count bytes header columns pairs said e has is differ =
+    rw differ.0 (columns, pairs, inr (header, has.0, has.1, has.2, is, has.3, has.4), refl, differ.1)
