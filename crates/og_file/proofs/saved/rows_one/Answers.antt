@@ -18,8 +18,8 @@ returns-in_err-add_one-clause-fault c =
     let fields = fields_of c.read_next.new.fields in
     let given = err_from_is_err_and c.from_residual-in_err-add_one.result c.from_residual-in_err-add_one.ensures.1 in
     rw (given.1, given.2) (λ bytes header count has is.
-      fault_one bytes header inv.0 fields c.args.schema.now count c.records.rel c.records.number c.in_err-add_one.field-0.0 inv.2 c.in_err-add_one.ensures.fault is inv.1
-        (begins bytes (header ∷ inv.0 ++ fields ∷ []) c.read_next.new.reader (rw c.if-not-branch.false at (c.in_ok-read_next.ensures bytes (header ∷ inv.0) (inv.3 bytes header has)))))
+    fault_one bytes header inv.0 fields c.args.schema.now count c.records.rel c.records.number c.in_err-add_one.field-0.0 inv.2 c.in_err-add_one.ensures.fault is inv.1
+    (begins bytes (header ∷ inv.0 ++ fields ∷ []) c.read_next.new.reader (rw c.if-not-branch.false at (c.in_ok-read_next.ensures bytes (header ∷ inv.0) (inv.3 bytes header has)))))
 
 pub records-preserved : goal.records-preserved
 records-preserved c =

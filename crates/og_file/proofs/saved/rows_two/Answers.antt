@@ -21,8 +21,8 @@ returns-then-branch-clause-fault c = λ bytes header has schema.
     let first = rw c.if-not-branch.false at (c.in_ok-read_next.ensures bytes (mark ∷ header ∷ inv.0) (inv.3 bytes header has)) in
     let second = rw c.if-branch.true at (c.in_ok-read_next-2.ensures bytes (mark ∷ header ∷ inv.0 ++ fields ∷ []) first) in
     late_record bytes header inv.0 fields next c.args.schema.now c.records.rel c.in-Some.said c.records.number inv.2 c.in-Some.ensures.end schema inv.1
-      (begins bytes (mark ∷ header ∷ inv.0 ++ fields ∷ []) c.read_next.new.reader first)
-      (begins bytes (mark ∷ header ∷ inv.0 ++ fields ∷ next ∷ []) c.read_next-in-Some.new.reader (rw (append_assoc (mark ∷ header ∷ inv.0) (fields ∷ []) (next ∷ [])) at second))
+    (begins bytes (mark ∷ header ∷ inv.0 ++ fields ∷ []) c.read_next.new.reader first)
+    (begins bytes (mark ∷ header ∷ inv.0 ++ fields ∷ next ∷ []) c.read_next-in-Some.new.reader (rw (append_assoc (mark ∷ header ∷ inv.0) (fields ∷ []) (next ∷ [])) at second))
 
 pub returns-in-Some-clause-rows : goal.returns-in-Some-clause-rows
 returns-in-Some-clause-rows c = λ bytes header has.
@@ -39,8 +39,8 @@ returns-in_err-add_two-clause-fault c =
     let fields = fields_of c.read_next.new.fields in
     let given = err_from_is_err_and c.from_residual-in_err-add_two.result c.from_residual-in_err-add_two.ensures.1 in
     rw (given.1, given.2) (λ bytes header has schema.
-      fault_two bytes header inv.0 fields c.args.schema.now c.records.rel c.records.number c.in_err-add_two.field-0.0 inv.2 c.in_err-add_two.ensures.fault c.in_default.ensures.none schema inv.1
-        (begins bytes (mark ∷ header ∷ inv.0 ++ fields ∷ []) c.read_next.new.reader (rw c.if-not-branch.false at (c.in_ok-read_next.ensures bytes (mark ∷ header ∷ inv.0) (inv.3 bytes header has)))))
+    fault_two bytes header inv.0 fields c.args.schema.now c.records.rel c.records.number c.in_err-add_two.field-0.0 inv.2 c.in_err-add_two.ensures.fault c.in_default.ensures.none schema inv.1
+    (begins bytes (mark ∷ header ∷ inv.0 ++ fields ∷ []) c.read_next.new.reader (rw c.if-not-branch.false at (c.in_ok-read_next.ensures bytes (mark ∷ header ∷ inv.0) (inv.3 bytes header has)))))
 
 pub records-preserved : goal.records-preserved
 records-preserved c =

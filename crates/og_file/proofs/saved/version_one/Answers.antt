@@ -21,11 +21,11 @@ returns-clause-file c =
     let fields = fields_of c.args.fields.now in
     let header = rw c.in-Some.is at c.in_ok-schema.ensures.header in
     IfOk-weaker c.counted.result _ _ (λ saved same bytes has differs.
-      one_file bytes fields c.in-Some.schema saved.schema c.in_ok-rel.rel saved.rel c.in-Some.said (c.in_ok-rel.ensures.rows bytes fields has) header same) c.counted.ensures.file
+    one_file bytes fields c.in-Some.schema saved.schema c.in_ok-rel.rel saved.rel c.in-Some.said (c.in_ok-rel.ensures.rows bytes fields has) header same) c.counted.ensures.file
 
 pub returns-clause-fault : goal.returns-clause-fault
 returns-clause-fault c =
     let fields = fields_of c.args.fields.now in
     let header = rw c.in-Some.is at c.in_ok-schema.ensures.header in
     IfErr-weaker c.counted.result _ _ (λ e differ bytes has differs.
-      one_count bytes fields c.in-Some.schema c.in_ok-rel.rel c.in-Some.said e (c.in_ok-rel.ensures.rows bytes fields has) header differ) c.counted.ensures.fault
+    one_count bytes fields c.in-Some.schema c.in_ok-rel.rel c.in-Some.said e (c.in_ok-rel.ensures.rows bytes fields has) header differ) c.counted.ensures.fault

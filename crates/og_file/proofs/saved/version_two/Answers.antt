@@ -30,8 +30,8 @@ returns-clause-file c =
     let whole = ap (λ n. take n fields) c.len.ensures ∙ take_whole fields in
     let schema = rw (c.in-Some.is, whole) at c.in_ok-schema.ensures.schema in
     IfOk-weaker c.counted.result _ _ (λ saved same bytes has.
-      two_file bytes fields c.in-Some.schema saved.schema c.in_ok-rel.rel saved.rel c.in_ok-rel.said
-        (c.in_ok-rel.ensures.rows bytes fields (rw c.if-not-branch.false at (c.in_ok-read_next.ensures bytes (mark ∷ []) has))) schema same) c.counted.ensures.file
+    two_file bytes fields c.in-Some.schema saved.schema c.in_ok-rel.rel saved.rel c.in_ok-rel.said
+    (c.in_ok-rel.ensures.rows bytes fields (rw c.if-not-branch.false at (c.in_ok-read_next.ensures bytes (mark ∷ []) has))) schema same) c.counted.ensures.file
 
 pub returns-clause-fault : goal.returns-clause-fault
 returns-clause-fault c =
@@ -39,5 +39,5 @@ returns-clause-fault c =
     let whole = ap (λ n. take n fields) c.len.ensures ∙ take_whole fields in
     let schema = rw (c.in-Some.is, whole) at c.in_ok-schema.ensures.schema in
     IfErr-weaker c.counted.result _ _ (λ e differ bytes has.
-      two_count bytes fields c.in-Some.schema c.in_ok-rel.rel c.in_ok-rel.said e
-        (c.in_ok-rel.ensures.rows bytes fields (rw c.if-not-branch.false at (c.in_ok-read_next.ensures bytes (mark ∷ []) has))) schema differ) c.counted.ensures.fault
+    two_count bytes fields c.in-Some.schema c.in_ok-rel.rel c.in_ok-rel.said e
+    (c.in_ok-rel.ensures.rows bytes fields (rw c.if-not-branch.false at (c.in_ok-read_next.ensures bytes (mark ∷ []) has))) schema differ) c.counted.ensures.fault
