@@ -1,7 +1,7 @@
-use Rattle.std.proofs.Common.{◌≡◌, ◌∙◌, ◌+◌, ap, sym, subst, length, take}
+use Rattle.std.proofs.Common.{◌≡◌, ◌∙◌, ◌+◌, sym, subst, length, take}
 use Rattle.csv.specs.Records.{fields_of}
-use Rattle.og_file.specs.SavedFile.{IsCount, AreSchema}
-use Rattle.og_file.proofs.SavedLemmas.{there, end_is, front_is, whole, one_more}
+use Rattle.og_file.specs.SavedFile.{IsCount}
+use Rattle.og_file.proofs.SavedLemmas.{there, end_is, whole, one_more}
 use Rattle.og_file.proofs.saved.header_of.Goals as goal
 
 pub returns-in_default-get-clause-none : goal.returns-in_default-get-clause-none

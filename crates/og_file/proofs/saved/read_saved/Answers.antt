@@ -1,6 +1,5 @@
 use Rattle.std.proofs.Common.{◌∙◌, ◌∷◌, [], inl, subst, sym}
 use Rattle.std.proofs.lemmas.Result.{IfOk-weaker, IfErr-weaker}
-use Rattle.csv.specs.Records.{fields_of}
 use Rattle.og_file.specs.Readers.{HasRead}
 use Rattle.og_file.proofs.saved.read_saved.Goals as goal
 

@@ -1,7 +1,6 @@
-use Rattle.std.proofs.Common.{◌∙◌, ◌++◌, ◌∷◌, [], subst}
+use Rattle.std.proofs.Common.{◌++◌, ◌∷◌, []}
 use Rattle.std.proofs.lemmas.Result.{err_from_is_err_and}
 use Rattle.csv.specs.Records.{fields_of}
-use Rattle.og_file.specs.Records.{Each}
 use Rattle.og_file.specs.SavedFile.{IsRow, one}
 use Rattle.og_file.proofs.TableLemmas.{next_row, begins}
 use Rattle.og_file.proofs.SavedLemmas.{count_more, fault_one}

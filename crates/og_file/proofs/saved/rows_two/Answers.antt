@@ -1,7 +1,7 @@
 use Rattle.std.proofs.Common.{◌++◌, ◌∷◌, [], append_assoc, inr, subst}
 use Rattle.std.proofs.lemmas.Result.{err_from_is_err_and}
 use Rattle.csv.specs.Records.{fields_of}
-use Rattle.og_file.specs.Records.{AreAll, Each}
+use Rattle.og_file.specs.Records.{AreAll}
 use Rattle.og_file.specs.SavedFile.{IsRow, mark, two}
 use Rattle.og_file.proofs.TableLemmas.{next_row, begins}
 use Rattle.og_file.proofs.SavedLemmas.{count_more, fault_two, late_record}
