@@ -1,5 +1,5 @@
 -- The cells of a record, one after the other.
-use Rattle.std.proofs.Common.{◌≡◌, ◌+◌, ◌<◌, ◌≤◌, ◌∙◌, ℕ, zero, suc, List, [], ◌∷◌, ◌++◌, Option, Some, None, length, take, refl, sym, ap, slice_get, arith}
+use Rattle.std.proofs.Common.{◌≡◌, ◌+◌, ◌<◌, ◌∙◌, ℕ, zero, suc, List, [], ◌∷◌, ◌++◌, Some, None, length, take, refl, ap, slice_get, arith}
 use Rattle.csv.specs.Records.{field_at}
 use Rattle.og_value.specs.Cells.{IsCell}
 use Rattle.og_value.specs.declared.schema.Column.{Column}

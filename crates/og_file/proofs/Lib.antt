@@ -2,6 +2,8 @@ pub mod CellLemmas
 pub mod Finds
 pub mod HeaderLemmas
 pub mod NameLemmas
+pub mod ReadBackLemmas
 pub mod RowLemmas
 pub mod SavedLemmas
 pub mod TableLemmas
+pub mod WriteLemmas

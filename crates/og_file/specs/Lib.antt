@@ -3,3 +3,5 @@ pub mod Records
 pub mod SavedFile
 pub mod SavedParts
 pub mod TableFile
+pub mod Writers
+pub mod Writing

@@ -1,4 +1,13 @@
-//! Files of tables.
+//! Files of tables: saved files of both versions, and table files.
+//!
+//! `write_saved` makes the bytes of a saved file of version 2, with each row on its days. `read_saved`
+//! gives the columns and the rows of a saved file of version 1 or 2, and `read_table` the rows of a plain
+//! table file for a schema; each refuses other bytes with the first fault that applies. What a saved file
+//! is, and which faults other bytes have, stands in specs/SavedFile.antt; for table files in
+//! specs/TableFile.antt. The records of bytes are those of the crate `csv` (specs/Records.antt), read one
+//! at a time over one buffer.
+//!
+//! No tests here: the calls are tested in og_samples.
 #![tactic(auto)]
 
 mod cells;
@@ -9,7 +18,9 @@ mod refusal;
 mod rows;
 mod saved;
 mod table;
+mod write;
 
 pub use refusal::FileRefusal;
 pub use saved::{Saved, read_saved};
 pub use table::read_table;
+pub use write::write_saved;

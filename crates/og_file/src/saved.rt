@@ -166,6 +166,7 @@ fn rows_two(
     let mut rel = Rel::new(alloc);
     'records: for number in 3..u64::MAX {
         if !read_next(reader, fields)? {
+            // The last record is missing.
             return Err(FileRefusal::Cell { number });
         }
         if let Some(said) = end_of(fields) {

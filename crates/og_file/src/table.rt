@@ -17,11 +17,7 @@ use std::alloc::Global;
 /// case, and each further record a cell for each column (docs/FORMATS.md, "Table files"). `Header` exactly
 /// where the first record is missing or differs; else `Cell` exactly where a further record is no row,
 /// with the number of the first such record; never `RowCount`.
-pub fn read_table(
-    alloc: Global,
-    schema: &Schema,
-    bytes: &[u8],
-) -> Result<Vec<Row>, FileRefusal>
+pub fn read_table(alloc: Global, schema: &Schema, bytes: &[u8]) -> Result<Vec<Row>, FileRefusal>
     ensures rows { IfOk result (λ rows. IsTableFile schema.now bytes.now rows.items) }
     ensures fault { IfErr result (IsTableFault schema.now bytes.now) }
 {

@@ -14,7 +14,7 @@ pub returns-then-not-is_name : goal.returns-then-not-is_name
 returns-then-not-is_name c = (
   λ e. cc e,
   λ has. sym c.if-not-is_name.true
-    ∙ c.is_name.ensures.1 (name_at c.args.schema.now (fields_of c.args.fields.now) c.columns.i c.column.result.now c.in-Some.field.now has c.column.ensures (sym c.in-Some.ensures.value)),
+      ∙ c.is_name.ensures.1 (name_at c.args.schema.now (fields_of c.args.fields.now) c.columns.i c.column.result.now c.in-Some.field.now has c.column.ensures (sym c.in-Some.ensures.value)),
 )
 
 pub columns-preserved : goal.columns-preserved

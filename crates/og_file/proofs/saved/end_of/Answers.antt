@@ -1,8 +1,5 @@
-use Rattle.std.proofs.Common.{◌≡◌, ◌∙◌, sym}
-
-
+use Rattle.std.proofs.Common.{◌∙◌, sym}
 use Rattle.csv.specs.Records.{fields_of}
-
 use Rattle.og_file.proofs.SavedLemmas.{alone, not_alone, end_some, end_none}
 use Rattle.og_file.proofs.saved.end_of.Goals as goal
 

@@ -1,7 +1,6 @@
 use Rattle.std.proofs.Common.{◌≡◌, ◌∙◌, ◌∷◌, [], codes, ap, sym}
 use Rattle.std.proofs.lemmas.Slice.Eq.{bytes_eq-Decides}
 use Rattle.csv.specs.Records.{fields_of}
-use Rattle.og_file.specs.SavedFile.{mark}
 use Rattle.og_file.proofs.SavedLemmas.{alone, not_alone}
 use Rattle.og_file.proofs.saved.is_mark.Goals as goal
 

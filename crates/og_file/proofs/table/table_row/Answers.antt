@@ -1,4 +1,4 @@
-use Rattle.std.proofs.Common.{rules, ◌∙◌, refl, sym}
+use Rattle.std.proofs.Common.{◌∙◌, refl, sym}
 use Rattle.csv.specs.Records.{fields_of}
 use Rattle.og_file.proofs.CellLemmas.{as_long}
 use Rattle.og_file.proofs.table.table_row.Goals as goal

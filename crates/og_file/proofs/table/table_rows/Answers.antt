@@ -16,8 +16,8 @@ returns-in_err-row-clause-fault c =
     let fields = fields_of c.read_next.new.fields in
     let given = err_from_is_err_and c.from_residual-in_err-row.result c.from_residual-in_err-row.ensures.1 in
     rw (given.1, given.2) (λ bytes names has named.
-      first_fault c.args.schema.now bytes names inv.0 fields c.records.rows.items _ c.in_err-row.field-0.0 (ap (λ n. n + 2) (search rules)) c.in_err-row.ensures.fault named inv.1
-        (begins bytes (names ∷ inv.0 ++ fields ∷ []) c.read_next.new.reader (rw c.if-not-branch.false at (c.in_ok-read_next.ensures bytes (names ∷ inv.0) (inv.2 bytes names has)))))
+    first_fault c.args.schema.now bytes names inv.0 fields c.records.rows.items _ c.in_err-row.field-0.0 (ap (λ n. n + 2) (search rules)) c.in_err-row.ensures.fault named inv.1
+    (begins bytes (names ∷ inv.0 ++ fields ∷ []) c.read_next.new.reader (rw c.if-not-branch.false at (c.in_ok-read_next.ensures bytes (names ∷ inv.0) (inv.2 bytes names has)))))
 
 pub records-preserved : goal.records-preserved
 records-preserved c =
