@@ -6,7 +6,7 @@
 //! then held against the grammar, which is narrower than what clap takes (specs/Shape.antt).
 //! `one_command` says that words are at most one command.
 //!
-//! No tests here: words reach it from the program, so the cases test it (docs/CASES.md).
+//! No tests here: the call is tested in og_samples.
 #![tactic(auto)]
 
 mod command;
