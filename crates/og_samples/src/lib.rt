@@ -21,8 +21,12 @@ pub mod joins;
 mod relations;
 pub mod rows;
 #[cfg(test)]
+mod saved_files;
+#[cfg(test)]
 mod sets;
 #[cfg(test)]
 mod texts;
 #[cfg(test)]
 mod values;
+#[cfg(test)]
+mod words;
