@@ -16,14 +16,24 @@ mod conditions;
 mod days;
 #[cfg(test)]
 mod devices;
+#[cfg(test)]
+mod files;
 pub mod joins;
+#[cfg(test)]
+mod refused_words;
 #[cfg(test)]
 mod relations;
 pub mod rows;
 #[cfg(test)]
 mod saved_files;
 #[cfg(test)]
+mod saved_headers;
+#[cfg(test)]
+mod saved_rows;
+#[cfg(test)]
 mod sets;
+#[cfg(test)]
+mod table_files;
 #[cfg(test)]
 mod texts;
 #[cfg(test)]
