@@ -2,22 +2,15 @@
 use crate::saved_files::add_cells;
 use crate::texts::is_text;
 use og_base::NoMemory;
-use og_file::{FileRefusal, read_table};
-use og_value::{Column, Kind, Name, Row, Schema};
+use og_file::{FileRefusal, read_saved, read_table};
+use og_value::{Row, Schema};
 use std::alloc::Global;
 use std::process::Abort;
 
-// The schema of the columns.
-fn schema<H: AllocGlobal + Abort>(rt: &H, columns: &[(&str, Kind)]) -> Schema {
-    let mut list = Vec::new(rt.alloc());
-    for (name, kind) in columns {
-        let column = Column {
-            name: Name::of(rt.alloc(), name.as_bytes()).expect(rt, name),
-            kind: *kind,
-        };
-        list.push(column).expect(rt, "memory");
-    }
-    Schema::of(list)
+// The schema that the header of a saved file of version 1 without rows names.
+fn schema<H: AllocGlobal + Abort>(rt: &H, header: &str) -> Schema {
+    let saved = read_saved(rt.alloc(), header.as_bytes()).expect(rt, header);
+    saved.schema
 }
 
 // Appends the rows.
@@ -44,7 +37,7 @@ fn is_refused(alloc: Global, schema: &Schema, bytes: &[u8], refusal: FileRefusal
 
 #[test]
 fn a_table_file_of_one_column_has_its_name_and_its_cells(rt: HostRuntime) {
-    let schema = schema(&rt, &[("p", Kind::Date)]);
+    let schema = schema(&rt, "p:DATE,rows:0");
     for (text, rows) in &[
         ("p\nnow\n2020-05-01\n", " / now / 2020-05-01"),
         ("p\nnow\n2020-05-01", " / now / 2020-05-01"),
@@ -68,7 +61,7 @@ fn a_table_file_of_one_column_has_its_name_and_its_cells(rt: HostRuntime) {
 
 #[test]
 fn a_table_file_of_another_first_record_has_no_header(rt: HostRuntime) {
-    let schema = schema(&rt, &[("p", Kind::Date)]);
+    let schema = schema(&rt, "p:DATE,rows:0");
     for text in &[
         b"".as_slice(),
         b"\n\r\n",
@@ -99,7 +92,7 @@ fn a_table_file_of_another_first_record_has_no_header(rt: HostRuntime) {
 
 #[test]
 fn the_first_record_that_is_no_cell_is_told(rt: HostRuntime) {
-    let schema = schema(&rt, &[("p", Kind::Date)]);
+    let schema = schema(&rt, "p:DATE,rows:0");
     for (text, number) in &[
         (b"p\nnow\nsoon\n".as_slice(), 3u64),
         (b"p\n\n\r\nsoon\n", 2),
@@ -120,7 +113,7 @@ fn the_first_record_that_is_no_cell_is_told(rt: HostRuntime) {
 
 #[test]
 fn a_table_file_of_two_columns_has_them_in_order(rt: HostRuntime) {
-    let schema = schema(&rt, &[("id", Kind::Int), ("select", Kind::Text)]);
+    let schema = schema(&rt, "id:INT,select:TEXT,rows:0");
     for (text, rows) in &[
         ("ID,Select\n007,x\n-0, y \n", " / 7,x / 0, y "),
         ("id,select\n7,\n7,\"\"\n", " / 7, / 7,"),
@@ -162,7 +155,7 @@ fn a_table_file_of_two_columns_has_them_in_order(rt: HostRuntime) {
 // csv leaves an empty line out, but not one of a space or of quotes. A schema may have one name twice.
 #[test]
 fn an_empty_line_is_no_record(rt: HostRuntime) {
-    let one = schema(&rt, &[("a", Kind::Text)]);
+    let one = schema(&rt, "a:TEXT,rows:0");
     for (text, rows) in &[
         ("a\n\n\r\n", ""),
         ("a\n \n\"\"\n", " /   / "),
@@ -170,6 +163,6 @@ fn an_empty_line_is_no_record(rt: HostRuntime) {
     ] {
         assert!(rt; holds(rt.alloc(), &one, text.as_bytes(), rows), "{text:?}");
     }
-    let two = schema(&rt, &[("x", Kind::Int), ("x", Kind::Int)]);
+    let two = schema(&rt, "x:INT,x:INT,rows:0");
     assert!(rt; holds(rt.alloc(), &two, b"X,x\n1,2\n", " / 1,2"));
 }
