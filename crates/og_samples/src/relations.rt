@@ -75,8 +75,8 @@ fn twice<H: AllocGlobal + Abort>(rt: &H) -> Rel<Row> {
     rel
 }
 
-// Whether the relation is of that many rows, and these are its lines on the day.
-fn lists(alloc: Global, rel: &Rel<Row>, len: usize, day: &str, text: &str) -> bool {
+/// Whether the relation is of that many rows, and these are its lines on the day.
+pub fn lists(alloc: Global, rel: &Rel<Row>, len: usize, day: &str, text: &str) -> bool {
     match read_ref_day(day.as_bytes()) {
         Ok(day) => rel.len() == len && has_lines(alloc, rel, day, text),
         Err(_) => false,
