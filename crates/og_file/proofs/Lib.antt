@@ -2,6 +2,7 @@ pub mod CellLemmas
 pub mod Finds
 pub mod HeaderLemmas
 pub mod NameLemmas
+pub mod OneLists
 pub mod ReadBackLemmas
 pub mod RowLemmas
 pub mod SavedLemmas
