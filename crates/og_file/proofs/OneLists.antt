@@ -1,5 +1,5 @@
 -- The bytes of a file have one list of records, and one list of rows.
-use Rattle.std.proofs.Common.{◌≡◌, ◌++◌, ◌∷◌, ◌∙◌, ℕ, List, [], Option, Some, None, refl, sym, ap, ap₂, subst}
+use Rattle.std.proofs.Common.{◌≡◌, ◌++◌, ◌∷◌, ◌∙◌, ℕ, List, [], Some, None, refl, sym, ap, ap₂, subst}
 use Rattle.csv.specs.Machine.{Read, next_record}
 use Rattle.csv.specs.Reading.{default_config, strip_bom, Reached, AreRecords}
 use Rattle.csv.specs.declared.parser.Config.{Config}
@@ -44,3 +44,33 @@ pub one_list : (bytes : List ℕ) (a b : List Record) → AreAll bytes a → Are
 one_list bytes a b all other =
     let go = rest_from default_config st.StartRecord (strip_bom bytes) a b all.0 all.1 all.2 other in
     sym (go.1 ∙ nothing_more a go.0 (none_behind default_config all.0 all.1 go.0 all.3 go.2))
+
+-- records have one list of values, where each has one value
+pub one_each : {A : Type 0} (is : Record → A → Type 0) → ((r : Record) (x y : A) → is r x → is r y → x ≡ y) → (rs : List Record) (xs ys : List A) → Each is rs xs → Each is rs ys → xs ≡ ys
+one_each is one [] [] [] are other = refl
+one_each is one (r ∷ rs) (x ∷ xs) (y ∷ ys) are other = ap₂ (λ z l. z ∷ l) (one r x y are.0 other.0) (one_each is one rs xs ys are.1 other.1)
+one_each is one [] (_ ∷ _) _ are other = absurd are
+one_each is one [] [] (_ ∷ _) are other = absurd other
+one_each is one (_ ∷ _) [] _ are other = absurd are
+one_each is one (_ ∷ _) (_ ∷ _) [] are other = absurd other
+
+-- the fields of a record have one list of values
+pub one_row : (cs : List Column) (fs : Record) (xs ys : List Value) → AreCells cs fs xs → AreCells cs fs ys → xs ≡ ys
+one_row [] [] [] [] are other = refl
+one_row (c ∷ cs) (f ∷ fs) (x ∷ xs) (y ∷ ys) are other = ap₂ (λ z l. z ∷ l) (one_value c.kind f x y are.0 other.0) (one_row cs fs xs ys are.1 other.1)
+one_row [] [] [] (_ ∷ _) are other = absurd other
+one_row [] [] (_ ∷ _) _ are other = absurd are
+one_row [] (_ ∷ _) _ _ are other = absurd are
+one_row (_ ∷ _) [] _ _ are other = absurd are
+one_row (_ ∷ _) (_ ∷ _) [] _ are other = absurd are
+one_row (_ ∷ _) (_ ∷ _) (_ ∷ _) [] are other = absurd other
+
+-- the records behind the first
+pub behind : (r q : Record) (rs qs : List Record) → r ∷ rs ≡ q ∷ qs → (r ≡ q) × (rs ≡ qs)
+behind r q rs qs e = (cc e, cc e)
+
+-- a table file has one list of rows
+pub one_table : (cs : List Column) (bytes : List ℕ) (a b : List (List Value)) → IsTableFile cs bytes a → IsTableFile cs bytes b → a ≡ b
+one_table cs bytes a b is other =
+    let same = (behind is.0 other.0 is.1 other.1 (one_list bytes (is.0 ∷ is.1) (other.0 ∷ other.1) is.2 other.2)).1 in
+    one_each (AreCells cs) (one_row cs) is.1 a b is.4 (subst (λ rs. Each (AreCells cs) rs b) (sym same) other.4)

@@ -1,9 +1,17 @@
 //! Laws on files, over their definitions alone.
 ghost use Rattle.std.specs.Prelude.{◌≡◌, ◌++◌, ℕ, List};
+ghost use Rattle.og_value.specs.declared.schema.Column.{Column};
+ghost use Rattle.og_value.specs.declared.value.Value.{Value};
 ghost use Rattle.og_file.specs.Records.{Record, AreAll, Begins};
+ghost use Rattle.og_file.specs.TableFile.{IsTableFile};
 
 /// The bytes of a file have one list of records, and the first records begin it.
 pub fn one_list_of_records()
     ensures one { (bytes : List ℕ) (a b : List Record) → AreAll bytes a → AreAll bytes b → a ≡ b }
     ensures first { (bytes : List ℕ) (a b : List Record) → Begins bytes a → AreAll bytes b → (rest : List Record) × (b ≡ a ++ rest) }
+{}
+
+/// A table file has one list of rows for the columns.
+pub fn one_table_file()
+    ensures { (columns : List Column) (bytes : List ℕ) (a b : List (List Value)) → IsTableFile columns bytes a → IsTableFile columns bytes b → a ≡ b }
 {}
