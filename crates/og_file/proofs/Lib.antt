@@ -3,6 +3,7 @@ pub mod Finds
 pub mod HeaderLemmas
 pub mod NameLemmas
 pub mod OneLists
+pub mod OneSaved
 pub mod ReadBackLemmas
 pub mod RowLemmas
 pub mod SavedLemmas

@@ -3,6 +3,7 @@ ghost use Rattle.std.specs.Prelude.{◌≡◌, ◌++◌, ℕ, List};
 ghost use Rattle.og_value.specs.declared.schema.Column.{Column};
 ghost use Rattle.og_value.specs.declared.value.Value.{Value};
 ghost use Rattle.og_file.specs.Records.{Record, AreAll, Begins};
+ghost use Rattle.og_file.specs.SavedFile.{IsSavedFile, Pair};
 ghost use Rattle.og_file.specs.TableFile.{IsTableFile};
 
 /// The bytes of a file have one list of records, and the first records begin it.
@@ -14,4 +15,9 @@ pub fn one_list_of_records()
 /// A table file has one list of rows for the columns.
 pub fn one_table_file()
     ensures { (columns : List Column) (bytes : List ℕ) (a b : List (List Value)) → IsTableFile columns bytes a → IsTableFile columns bytes b → a ≡ b }
+{}
+
+/// A saved file has one list of columns, and one list of rows on their days.
+pub fn one_saved_file()
+    ensures { (bytes : List ℕ) (c d : List Column) (p q : List Pair) → IsSavedFile bytes c p → IsSavedFile bytes d q → (c ≡ d) × (p ≡ q) }
 {}

@@ -12,7 +12,7 @@ mod saved;
 mod table;
 mod write;
 
-pub use laws::{one_list_of_records, one_table_file};
+pub use laws::{one_list_of_records, one_saved_file, one_table_file};
 pub use refusal::FileRefusal;
 pub use saved::{Saved, read_saved};
 pub use table::read_table;
