@@ -52,7 +52,7 @@ one_column field c d is other =
     same_column c d (is.2 ∙ ap folded word ∙ sym other.2) (one_kind c.kind d.kind kinds)
 
 -- the fields name one list of columns
-one_columns : (fs : Record) (cs ds : List Column) → AreColumns fs cs → AreColumns fs ds → cs ≡ ds
+pub one_columns : (fs : Record) (cs ds : List Column) → AreColumns fs cs → AreColumns fs ds → cs ≡ ds
 one_columns [] [] [] are other = refl
 one_columns (f ∷ fs) (c ∷ cs) (d ∷ ds) are other = ap₂ (λ x l. x ∷ l) (one_column f c d are.0 other.0) (one_columns fs cs ds are.1 other.1)
 one_columns [] (_ ∷ _) _ are other = absurd are
