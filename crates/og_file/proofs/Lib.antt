@@ -2,6 +2,9 @@ pub mod CellLemmas
 pub mod Finds
 pub mod HeaderLemmas
 pub mod NameLemmas
+pub mod NoFaults
+pub mod OneLists
+pub mod OneSaved
 pub mod ReadBackLemmas
 pub mod RowLemmas
 pub mod SavedLemmas

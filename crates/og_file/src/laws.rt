@@ -1,0 +1,34 @@
+//! Laws on files, over their definitions alone.
+ghost use Rattle.std.specs.Prelude.{◌≡◌, ◌++◌, ℕ, List};
+ghost use Rattle.og_value.specs.declared.schema.Column.{Column};
+ghost use Rattle.og_value.specs.declared.value.Value.{Value};
+ghost use Rattle.og_file.specs.Records.{Record, AreAll, Begins};
+ghost use Rattle.og_file.specs.SavedFile.{IsSavedFault, IsSavedFile, Pair};
+ghost use Rattle.og_file.specs.TableFile.{IsTableFault, IsTableFile};
+ghost use Rattle.og_file.specs.declared.refusal.FileRefusal.{FileRefusal};
+
+/// The bytes of a file have one list of records, and the first records begin it.
+pub fn one_list_of_records()
+    ensures one { (bytes : List ℕ) (a b : List Record) → AreAll bytes a → AreAll bytes b → a ≡ b }
+    ensures first { (bytes : List ℕ) (a b : List Record) → Begins bytes a → AreAll bytes b → (rest : List Record) × (b ≡ a ++ rest) }
+{}
+
+/// A table file has one list of rows for the columns.
+pub fn one_table_file()
+    ensures { (columns : List Column) (bytes : List ℕ) (a b : List (List Value)) → IsTableFile columns bytes a → IsTableFile columns bytes b → a ≡ b }
+{}
+
+/// A saved file has one list of columns, and one list of rows on their days.
+pub fn one_saved_file()
+    ensures { (bytes : List ℕ) (c d : List Column) (p q : List Pair) → IsSavedFile bytes c p → IsSavedFile bytes d q → (c ≡ d) × (p ≡ q) }
+{}
+
+/// Of a table file no fault can be said, but that memory ran out.
+pub fn no_fault_of_a_table_file()
+    ensures { (columns : List Column) (bytes : List ℕ) (rows : List (List Value)) (e : FileRefusal) → IsTableFile columns bytes rows → IsTableFault columns bytes e → e ≡ FileRefusal.NoMemory }
+{}
+
+/// Of a saved file no fault can be said, but that memory ran out.
+pub fn no_fault_of_a_saved_file()
+    ensures { (bytes : List ℕ) (c : List Column) (p : List Pair) (e : FileRefusal) → IsSavedFile bytes c p → IsSavedFault bytes e → e ≡ FileRefusal.NoMemory }
+{}
