@@ -1,5 +1,6 @@
 pub mod CellLemmas
 pub mod Finds
+pub mod Fitting
 pub mod HeaderLemmas
 pub mod NameLemmas
 pub mod NoFaults

@@ -1,10 +1,12 @@
 //! Laws on files, over their definitions alone.
 ghost use Rattle.std.specs.Prelude.{◌≡◌, ◌++◌, ℕ, List};
+ghost use Rattle.std.specs.List.{All};
 ghost use Rattle.og_value.specs.declared.schema.Column.{Column};
 ghost use Rattle.og_value.specs.declared.value.Value.{Value};
 ghost use Rattle.og_file.specs.Records.{Record, AreAll, Begins};
 ghost use Rattle.og_file.specs.SavedFile.{IsSavedFault, IsSavedFile, Pair};
 ghost use Rattle.og_file.specs.TableFile.{IsTableFault, IsTableFile};
+ghost use Rattle.og_file.specs.Writing.{IsOfKinds};
 ghost use Rattle.og_file.specs.declared.refusal.FileRefusal.{FileRefusal};
 
 /// The bytes of a file have one list of records, and the first records begin it.
@@ -21,6 +23,16 @@ pub fn one_table_file()
 /// A saved file has one list of columns, and one list of rows on their days.
 pub fn one_saved_file()
     ensures { (bytes : List ℕ) (c d : List Column) (p q : List Pair) → IsSavedFile bytes c p → IsSavedFile bytes d q → (c ≡ d) × (p ≡ q) }
+{}
+
+/// The rows of a table file have values of the kinds of the columns.
+pub fn rows_of_a_table_file_fit()
+    ensures { (columns : List Column) (bytes : List ℕ) (rows : List (List Value)) → IsTableFile columns bytes rows → All (IsOfKinds columns) rows }
+{}
+
+/// The rows of a saved file have values of the kinds of its columns.
+pub fn rows_of_a_saved_file_fit()
+    ensures { (bytes : List ℕ) (columns : List Column) (pairs : List Pair) → IsSavedFile bytes columns pairs → All (λ p. IsOfKinds columns p.0) pairs }
 {}
 
 /// Of a table file no fault can be said, but that memory ran out.

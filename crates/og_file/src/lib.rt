@@ -23,7 +23,7 @@ mod write;
 
 pub use laws::{
     no_fault_of_a_saved_file, no_fault_of_a_table_file, one_list_of_records, one_saved_file,
-    one_table_file,
+    one_table_file, rows_of_a_saved_file_fit, rows_of_a_table_file_fit,
 };
 pub use refusal::FileRefusal;
 pub use saved::{Saved, read_saved};
