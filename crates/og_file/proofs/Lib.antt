@@ -1,3 +1,4 @@
+pub mod AllBytes
 pub mod CellLemmas
 pub mod Finds
 pub mod HeaderLemmas

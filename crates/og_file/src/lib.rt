@@ -3,6 +3,7 @@
 
 mod cells;
 mod header;
+mod laws;
 mod names;
 mod records;
 mod refusal;
@@ -11,6 +12,7 @@ mod saved;
 mod table;
 mod write;
 
+pub use laws::records_of_all_bytes;
 pub use refusal::FileRefusal;
 pub use saved::{Saved, read_saved};
 pub use table::read_table;
