@@ -1,7 +1,9 @@
 pub mod AllBytes
 pub mod CellLemmas
+pub mod CutFiles
 pub mod Finds
 pub mod HeaderLemmas
+pub mod MarkedBytes
 pub mod NameLemmas
 pub mod ReadBackLemmas
 pub mod RowLemmas
