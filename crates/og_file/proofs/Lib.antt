@@ -1,6 +1,8 @@
 pub mod AllBytes
+pub mod CellChoice
 pub mod CellLemmas
 pub mod CutFiles
+pub mod DayChoice
 pub mod Finds
 pub mod HeaderLemmas
 pub mod MarkedBytes
@@ -8,5 +10,6 @@ pub mod NameLemmas
 pub mod ReadBackLemmas
 pub mod RowLemmas
 pub mod SavedLemmas
+pub mod TableChoice
 pub mod TableLemmas
 pub mod WriteLemmas
