@@ -18,6 +18,7 @@ takes cfg s fields field [] p e = by (ends_at_end s) refl
   where
     none : (n : ℕ) → 0 ≡ n → n ≤ 0
     none n same = omega (arith, same)
+
     by : (b : Bool) → ends_at_end s ≡ b → length p.2 ≤ 0
     by true is = none (length p.2) (ap length (left_same (fields ++ (field ∷ []), st.StartRecord, []) p (rw is at e)))
     by false is = cc (rw is at e)
@@ -25,8 +26,10 @@ takes cfg s fields field (c ∷ rest) p e = by (is_end (step cfg s c).1) refl (t
   where
     as_long : (n m : ℕ) → n ≡ m → m ≤ suc n - 1
     as_long n m same = omega (arith, same)
+
     shorter : (n m : ℕ) → m ≤ n - 1 → m ≤ suc n - 1
     shorter n m less = omega (arith, less)
+
     by : (b : Bool) → is_end (step cfg s c).1 ≡ b
         → (next_record cfg (step cfg s c).0 (fields_after (step cfg s c).1 fields field) (field_after (step cfg s c).1 c field) rest ≡ Some p → length p.2 ≤ length rest - 1)
         → length p.2 ≤ suc (length rest) - 1
@@ -54,6 +57,7 @@ some_left cfg (suc n) s (x ∷ xs) most = by (next_record cfg s [] [] (x ∷ xs)
   where
     fewer : (k l : ℕ) → suc l ≤ suc n → k ≤ suc l - 1 → k ≤ n
     fewer k l most less = omega (arith, most, less)
+
     by : (o : Option Read) → next_record cfg s [] [] (x ∷ xs) ≡ o → ((s : State) (xs : List ℕ) → length xs ≤ n → Have cfg s xs) → Have cfg s (x ∷ xs)
     by None is more = ([], (s, x ∷ xs, (refl, refl), is))
     by (Some p) is more =

@@ -1,5 +1,5 @@
 -- Each text is a cell of a kind, or none.
-use Rattle.std.proofs.Common.{◌≡◌, ◌⊎◌, ◌+◌, ◌<◌, ◌<ℤ◌, ◌^◌, ◌++◌, ◌∷◌, [], ◌∙◌, ℕ, ℤ, List, length, codes, refl, ap, inl, inr, arith}
+use Rattle.std.proofs.Common.{◌≡◌, ◌⊎◌, ◌+◌, ◌<◌, ◌<ℤ◌, ◌^◌, ◌++◌, ◌∷◌, [], ◌∙◌, ℕ, ℤ, List, length, codes, refl, ap, inl, inr}
 use Rattle.std.specs.Prelude.{FitsSigned, slice_index}
 use Rattle.std.specs.Char.{digit_value}
 use Rattle.std.specs.Int.{w64}
@@ -7,7 +7,6 @@ use Rattle.std.specs.Int.Signed.{mag}
 use Rattle.std.specs.Str.{IsUtf8, is_utf8}
 use Rattle.std.specs.Str.Parse.{AllDigits, signed_digits_value, without_leading_sign}
 use Rattle.std.proofs.lemmas.Str.{IsUtf8-from_is_utf8, is_utf8-from_IsUtf8}
-use native.Mathlib.Decide.{dec_lt}
 use Rattle.og_base.specs.Bytes.{Lacks, IsCutAt}
 use Rattle.og_base.specs.Calendar.{IsDayText, IsRefDayText, before_all, after_all}
 use Rattle.og_time.specs.Point.{Point, IsPointText, IsEndText, AreEndTexts, IsWholeText}
@@ -19,7 +18,7 @@ use Rattle.og_value.specs.declared.kind.Kind.{Kind}
 use Rattle.og_value.specs.declared.kind.Kind.TheVariants as k
 use Rattle.og_value.specs.declared.value.Value.{Value}
 use Rattle.og_value.specs.declared.value.Value.TheVariants as v
-use Rattle.og_file.proofs.DayChoice.{Or, a_day, by_bool, cut_or_lacks, less, less_z, ref_day, same_text}
+use Rattle.og_file.proofs.DayChoice.{Or, a_day, by_bool, cut_or_lacks, less, less_z, number, ref_day, same_text}
 
 -- ---- points
 
@@ -29,6 +28,7 @@ an_end text open_end = by (same_text text []) (ref_day text)
     neither : (text ≡ [] → ⊥) → ((n : ℤ) × IsRefDayText text n → ⊥) → (n : ℤ) → IsEndText text open_end n → ⊥
     neither some out n (inl h) = some h.0
     neither some out n (inr h) = out (n, h)
+
     by : Or (text ≡ []) → Or ((n : ℤ) × IsRefDayText text n) → Or ((n : ℤ) × IsEndText text open_end n)
     by (inl none) r = inl (open_end, inl (none, refl))
     by (inr some) (inl ref) = inl (ref.0, inr ref.1)
@@ -40,6 +40,7 @@ ends low high = by (an_end low before_all) (an_end high after_all) (less 0 (leng
     rising : (a : (n : ℤ) × IsEndText low before_all n) (b : (n : ℤ) × IsEndText high after_all n) → 0 < length low + length high → Or (a.0 <ℤ b.0) → Or ((p : Point) × AreEndTexts low high p)
     rising a b some (inl up) = inl (record { low = a.0; high = b.0 }, record { low_end = a.1; high_end = b.1; rising = up; some = some })
     rising a b some (inr out) = inr (λ h. no_ends low high a.0 b.0 h.0 a.1 b.1 out h.1)
+
     by : Or ((n : ℤ) × IsEndText low before_all n) → Or ((n : ℤ) × IsEndText high after_all n) → Or (0 < length low + length high) → Or ((p : Point) × AreEndTexts low high p)
     by (inl a) (inl b) (inl some) = rising a b some (less_z a.0 b.0)
     by (inr out) b some = inr (λ h. out (h.0.low, h.1.low_end))
@@ -52,27 +53,21 @@ a_point text = by (cut_or_lacks 43 text)
     has : (low high : List ℕ) → IsCutAt 43 text low high → Or ((p : Point) × AreEndTexts low high p) → Or ((p : Point) × IsPointText text p)
     has low high cut (inl p) = inl (p.0, ends_are_texts text low high p.0 cut.joined p.1)
     has low high cut (inr out) = inr (λ h. out (h.0, texts_are_ends text low high h.0 cut h.1))
+
     neither : ((n : ℤ) × IsDayText text n → ⊥) → (text ≡ codes "now" → ⊥) → (p : Point) → IsWholeText text p → ⊥
     neither x y p (inl fixed) = x (p.low, fixed.0)
     neither x y p (inr now) = y now.0
+
     whole : Lacks 43 text → Or ((n : ℤ) × IsDayText text n) → Or (text ≡ codes "now") → Or ((p : Point) × IsPointText text p)
     whole lacks (inl d) now = inl (record { low = d.0; high = d.0 }, inl (d.1, refl))
     whole lacks (inr x) (inl now) = inl (record { low = before_all; high = after_all }, inr (inl (now, refl, refl)))
     whole lacks (inr x) (inr y) = inr (λ h. neither x y h.0 (texts_are_whole text h.0 lacks h.1))
+
     by : ((low : List ℕ) × (high : List ℕ) × IsCutAt 43 text low high) ⊎ Lacks 43 text → Or ((p : Point) × IsPointText text p)
     by (inl cut) = has cut.0 cut.1 cut.2 (ends cut.0 cut.1)
     by (inr lacks) = whole lacks (a_day text) (same_text text (codes "now"))
 
 -- ---- periods
-
-number : (n m : ℕ) → Or (n ≡ m)
-number n m = elim (dec_lt n m) [
-  | yes h ↦ inr (λ e. omega (arith, h, e))
-  | no h ↦ elim (dec_lt m n) [
-    | yes k ↦ inr (λ e. omega (arith, k, e))
-    | no k ↦ inl (omega (arith, h, k))
-  ]
-]
 
 nothing : (front : List ℕ) → [] ≡ front ++ 41 ∷ [] → ⊥
 nothing [] e = cc e
@@ -85,6 +80,7 @@ closed (x ∷ []) = by (number x 41)
     other : (x ≡ 41 → ⊥) → (front : List ℕ) → x ∷ [] ≡ front ++ 41 ∷ [] → ⊥
     other out [] e = out (let same : x ≡ 41 = cc e in same)
     other out (y ∷ front) e = nothing front (let rest : [] ≡ front ++ 41 ∷ [] = cc e in rest)
+
     by : Or (x ≡ 41) → Or ((front : List ℕ) × (x ∷ [] ≡ front ++ 41 ∷ []))
     by (inl same) = inl ([], ap (λ z. z ∷ []) same)
     by (inr out) = inr (λ h. other out h.0 h.1)
@@ -93,6 +89,7 @@ closed (x ∷ y ∷ ys) = by (closed (y ∷ ys))
     longer : ((front : List ℕ) × (y ∷ ys ≡ front ++ 41 ∷ []) → ⊥) → (front : List ℕ) → x ∷ y ∷ ys ≡ front ++ 41 ∷ [] → ⊥
     longer out [] e = cc e
     longer out (z ∷ front) e = out (front, let rest : y ∷ ys ≡ front ++ 41 ∷ [] = cc e in rest)
+
     by : Or ((front : List ℕ) × (y ∷ ys ≡ front ++ 41 ∷ [])) → Or ((front : List ℕ) × (x ∷ y ∷ ys ≡ front ++ 41 ∷ []))
     by (inl f) = inl (x ∷ f.0, ap (λ l. x ∷ l) f.1)
     by (inr out) = inr (λ h. longer out h.0 h.1)
@@ -114,9 +111,11 @@ a_period text = by (inside text)
     points within first last is cut (inl p) (inl q) = inl (record { start = p.0; end = q.0 }, (first, last, (cut_is_sides text within first last is cut).joined, p.1, q.1))
     points within first last is cut (inr out) q = inr (λ h. out (h.0.start, (sides_are_texts text first last h.0 (cut_is_sides text within first last is cut) h.1).0))
     points within first last is cut (inl p) (inr out) = inr (λ h. out (h.0.end, (sides_are_texts text first last h.0 (cut_is_sides text within first last is cut) h.1).1))
+
     sides : (within : List ℕ) → text ≡ codes "[" ++ within ++ codes ")" → ((low : List ℕ) × (high : List ℕ) × IsCutAt 44 within low high) ⊎ Lacks 44 within → Or ((i : Period) × IsPeriodText text i)
     sides within is (inl cut) = points within cut.0 cut.1 is cut.2 (a_point cut.0) (a_point cut.1)
     sides within is (inr lacks) = inr (λ h. no_sides text within h.1.0 h.1.1 is lacks (texts_are_sides text h.0 h.1))
+
     by : Or ((within : List ℕ) × (text ≡ codes "[" ++ within ++ codes ")")) → Or ((i : Period) × IsPeriodText text i)
     by (inl i) = sides i.0 i.1 (cut_or_lacks 44 i.0)
     by (inr out) = inr (λ h. out (h.1.0 ++ 44 ∷ h.1.1, h.1.2 ∙ bracketed-cut h.1.0 h.1.1))
@@ -144,6 +143,7 @@ a_number text = by (number (slice_index text 0) 43) (less 0 (length (without_lea
   where
     too_large : (FitsSigned w64 (signed_digits_value 10 text) → ⊥) → (n : ℤ) → IsIntText text n → ⊥
     too_large out n h = out (rw h.number at h.fits)
+
     by : Or (slice_index text 0 ≡ 43) → Or (0 < length (without_leading_sign text)) → Or (AllDigits 10 (without_leading_sign text)) → Or (FitsSigned w64 (signed_digits_value 10 text))
         → Or ((n : ℤ) × IsIntText text n)
     by (inr a) (inl b) (inl c) (inl d) = inl (signed_digits_value 10 text, record { no_plus = a; digits = (b, c); number = refl; fits = d })

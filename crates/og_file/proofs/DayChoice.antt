@@ -1,8 +1,7 @@
 -- Each text is the text of a day, or of none.
-use Rattle.std.proofs.Common.{◌≡◌, ◌⊎◌, ◌<◌, ◌≤◌, ◌≤ℤ◌, ◌<ℤ◌, ◌++◌, ◌∷◌, [], ◌∙◌, ℕ, ℤ, neg_ℤ, pos, List, Bool, true, false, Result, Ok, Err, length, codes, refl, sym, ap, ap₂, subst, inl, inr, arith}
+use Rattle.std.proofs.Common.{◌≡◌, ◌⊎◌, ◌<◌, ◌≤◌, ◌≤ℤ◌, ◌<ℤ◌, ◌∷◌, [], ◌∙◌, ℕ, ℤ, neg_ℤ, pos, List, Bool, true, false, Result, Ok, Err, codes, refl, sym, ap, subst, inl, inr, arith}
 use Rattle.std.specs.Bool.{Decides}
 use Rattle.std.specs.Str.{bytes_eq}
-use Rattle.std.proofs.lemmas.Bool.{cases_Bool}
 use Rattle.std.proofs.lemmas.Int.{by_lt_z, ints}
 use Rattle.std.proofs.lemmas.Slice.Eq.{bytes_eq-Decides}
 use native.Mathlib.Decide.{dec_lt}
@@ -43,6 +42,15 @@ pub less : (n m : ℕ) → Or (n < m)
 less n m = elim (dec_lt n m) [
   | yes h ↦ inl h
   | no h ↦ inr h
+]
+
+pub number : (n m : ℕ) → Or (n ≡ m)
+number n m = elim (dec_lt n m) [
+  | yes h ↦ inr (λ e. omega (arith, h, e))
+  | no h ↦ elim (dec_lt m n) [
+    | yes k ↦ inr (λ e. omega (arith, k, e))
+    | no k ↦ inl (omega (arith, h, k))
+  ]
 ]
 
 at_most : (n m : ℕ) → Or (n ≤ m)
@@ -86,6 +94,7 @@ of_date text = by (parse_date text) refl
   where
     parts_of : (d : Date) (p : DateParts) → text ≡ date_text d → parse_date text ≡ Ok p → date_parts d ≡ p
     parts_of d p e is = parts_same (date_parts d) p (parse_date text) (ap parse_date e ∙ parse_date-date_text d) is
+
     has : (p : DateParts) → parse_date text ≡ Ok p → Or (IsCivilDate p.year p.month p.day) → Or (IsOfDate text)
     has p is (inr out) = inr (λ d. out (subst (λ (q : DateParts). IsCivilDate q.year q.month q.day) (parts_of d.0 p d.1 is) (d.0.year_in, d.0.month_in, d.0.day_in)))
     has p is (inl in_it) = at (same_text text (date_text (date_of p in_it)))
@@ -95,6 +104,7 @@ of_date text = by (parse_date text) refl
         at (inr other) = inr (λ d.
             let q = parts_of d.0 p d.1 is in
             other (d.1 ∙ alike d.0 (date_of p in_it) (ap (λ (q : DateParts). q.year) q) (ap (λ (q : DateParts). q.month) q) (ap (λ (q : DateParts). q.day) q)))
+
     by : (r : Result DateParts Error) → parse_date text ≡ r → Or (IsOfDate text)
     by (Ok p) is = has p is (civil p)
     by (Err e) is = inr (λ d. cc (sym is ∙ ap parse_date d.1 ∙ parse_date-date_text d.0))
@@ -114,6 +124,7 @@ a_day text = by (same_text text (codes "-infinity")) (same_text text (codes "inf
     none x y z n (inl h) = x h.0
     none x y z n (inr (inl h)) = y h.0
     none x y z n (inr (inr h)) = z (n, h)
+
     by : Or (text ≡ codes "-infinity") → Or (text ≡ codes "infinity") → Or ((n : ℤ) × IsRefDayText text n) → Or ((n : ℤ) × IsDayText text n)
     by (inl first) b c = inl (before_all, inl (first, refl))
     by (inr x) (inl last) c = inl (after_all, inr (inl (last, refl)))
@@ -126,14 +137,6 @@ pub cut_or_lacks : (b : ℕ) (text : List ℕ) → ((low : List ℕ) × (high : 
 cut_or_lacks b [] = inr tt
 cut_or_lacks b (x ∷ xs) = by (number x b) (cut_or_lacks b xs)
   where
-    number : (n m : ℕ) → Or (n ≡ m)
-    number n m = elim (dec_lt n m) [
-      | yes h ↦ inr (λ e. omega (arith, h, e))
-      | no h ↦ elim (dec_lt m n) [
-        | yes k ↦ inr (λ e. omega (arith, k, e))
-        | no k ↦ inl (omega (arith, h, k))
-      ]
-    ]
     by : Or (x ≡ b) → ((low : List ℕ) × (high : List ℕ) × IsCutAt b xs low high) ⊎ Lacks b xs → ((low : List ℕ) × (high : List ℕ) × IsCutAt b (x ∷ xs) low high) ⊎ Lacks b (x ∷ xs)
     by (inl same) more = inl ([], xs, record { joined = ap (λ z. z ∷ xs) same; first = tt })
     by (inr other) (inl cut) = inl (x ∷ cut.0, cut.1, record { joined = ap (λ l. x ∷ l) cut.2.joined; first = (other, cut.2.first) })

@@ -1,5 +1,5 @@
 -- A byte order mark is no part of the records.
-use Rattle.std.proofs.Common.{◌≡◌, List, ◌∷◌, ℕ, refl, sym}
+use Rattle.std.proofs.Common.{◌≡◌, List, ◌∷◌, ℕ, refl}
 use Rattle.std.specs.Prelude.{◌↔◌}
 use Rattle.csv.specs.Reading.{strip_bom}
 use Rattle.og_file.specs.Records.{Record, AreAll}

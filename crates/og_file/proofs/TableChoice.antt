@@ -25,9 +25,11 @@ a_row (c ∷ cs) (f ∷ fs) = by (a_cell c.kind f) (a_row cs fs)
     first : ((x : Value) × IsCell c.kind f x → ⊥) → (xs : List Value) → AreCells (c ∷ cs) (f ∷ fs) xs → ⊥
     first out [] h = h
     first out (x ∷ xs) h = out (x, h.0)
+
     rest : ((xs : List Value) × AreCells cs fs xs → ⊥) → (xs : List Value) → AreCells (c ∷ cs) (f ∷ fs) xs → ⊥
     rest out [] h = h
     rest out (x ∷ xs) h = out (xs, h.1)
+
     by : Or ((x : Value) × IsCell c.kind f x) → Or ((xs : List Value) × AreCells cs fs xs) → Or ((xs : List Value) × AreCells (c ∷ cs) (f ∷ fs) xs)
     by (inl x) (inl xs) = inl (x.0 ∷ xs.0, (x.1, xs.1))
     by (inr out) xs = inr (λ h. first out h.0 h.1)
@@ -98,15 +100,17 @@ each_table_file_or_fault columns bytes = let all = records_of_all_bytes bytes in
     of_rows names records all has (inl found) = inl (found.0, (names, records, all, has, found.1))
     of_rows names records all has (inr bad) =
         let whole : AreAll bytes ((names ∷ bad.before ++ bad.fields ∷ []) ++ bad.after) =
-          subst (λ l. AreAll bytes (names ∷ l)) (joined bad.before bad.fields bad.after) (subst (λ l. AreAll bytes (names ∷ l)) bad.split all) in
+        subst (λ l. AreAll bytes (names ∷ l)) (joined bad.before bad.fields bad.after) (subst (λ l. AreAll bytes (names ∷ l)) bad.split all) in
         inr (
           refused.Cell (length bad.before + 2),
           (λ e. cc e),
           (names, bad.before, bad.fields, bad.rows, begins bytes (names ∷ bad.before ++ bad.fields ∷ []) bad.after whole, has, bad.are, bad.none, refl),
         )
+
     header : (names : Record) (records : List Record) → AreAll bytes (names ∷ records) → Or (HasNames columns names) → Chosen columns bytes
     header names records all (inl has) = of_rows names records all has (rows_or_bad columns records)
     header names records all (inr out) = inr (refused.Header, (λ e. cc e), inr (names, begins bytes (names ∷ []) records all, out))
+
     by : (records : List Record) → AreAll bytes records → Chosen columns bytes
     by [] all = inr (refused.Header, (λ e. cc e), inl all)
     by (names ∷ records) all = header names records all (same_list (map folded names) (map (λ c. c.name) columns))
