@@ -1,7 +1,12 @@
+pub mod AllBytes
+pub mod CellChoice
 pub mod CellLemmas
+pub mod CutFiles
+pub mod DayChoice
 pub mod Finds
 pub mod Fitting
 pub mod HeaderLemmas
+pub mod MarkedBytes
 pub mod NameLemmas
 pub mod NoFaults
 pub mod OneLists
@@ -9,5 +14,6 @@ pub mod OneSaved
 pub mod ReadBackLemmas
 pub mod RowLemmas
 pub mod SavedLemmas
+pub mod TableChoice
 pub mod TableLemmas
 pub mod WriteLemmas
