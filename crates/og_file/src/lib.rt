@@ -12,6 +12,7 @@
 
 mod cells;
 mod header;
+mod laws;
 mod names;
 mod records;
 mod refusal;
@@ -20,6 +21,11 @@ mod saved;
 mod table;
 mod write;
 
+pub use laws::{
+    a_cut_file_is_refused, a_mark_changes_nothing, each_table_file_or_fault,
+    no_fault_of_a_saved_file, no_fault_of_a_table_file, one_list_of_records, one_saved_file,
+    one_table_file, records_of_all_bytes, rows_of_a_saved_file_fit, rows_of_a_table_file_fit,
+};
 pub use refusal::FileRefusal;
 pub use saved::{Saved, read_saved};
 pub use table::read_table;

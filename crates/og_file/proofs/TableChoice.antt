@@ -1,0 +1,116 @@
+-- Any bytes are a table file, or no table file for a reason.
+use Rattle.std.proofs.Common.{◌≡◌, ◌≢◌, ◌⊎◌, ◌+◌, ◌++◌, ◌∷◌, [], ℕ, List, length, map, refl, ap, subst, inl, inr}
+use Rattle.csv.specs.Reading.{default_config, strip_bom, Reached}
+use Rattle.csv.specs.declared.parser.Config.{Config}
+use Rattle.csv.specs.declared.parser.State.{State}
+use Rattle.csv.specs.declared.parser.State.TheVariants as st
+use Rattle.og_value.specs.Cells.{IsCell}
+use Rattle.og_value.specs.Words.{folded}
+use Rattle.og_value.specs.declared.schema.Column.{Column}
+use Rattle.og_value.specs.declared.value.Value.{Value}
+use Rattle.og_file.specs.Records.{Record, AreAll, Begins, Each}
+use Rattle.og_file.specs.TableFile.{AreCells, HasNames, IsTableFault, IsTableFile}
+use Rattle.og_file.specs.declared.refusal.FileRefusal.{FileRefusal}
+use Rattle.og_file.specs.declared.refusal.FileRefusal.TheVariants as refused
+use Rattle.og_file.proofs.AllBytes.{records_of_all_bytes}
+use Rattle.og_file.proofs.CellChoice.{a_cell}
+use Rattle.og_file.proofs.DayChoice.{Or, same_text}
+
+a_row : (cs : List Column) (fs : Record) → Or ((xs : List Value) × AreCells cs fs xs)
+a_row [] [] = inl ([], tt)
+a_row [] (f ∷ fs) = inr (λ h. h.1)
+a_row (c ∷ cs) [] = inr (λ h. h.1)
+a_row (c ∷ cs) (f ∷ fs) = by (a_cell c.kind f) (a_row cs fs)
+  where
+    first : ((x : Value) × IsCell c.kind f x → ⊥) → (xs : List Value) → AreCells (c ∷ cs) (f ∷ fs) xs → ⊥
+    first out [] h = h
+    first out (x ∷ xs) h = out (x, h.0)
+
+    rest : ((xs : List Value) × AreCells cs fs xs → ⊥) → (xs : List Value) → AreCells (c ∷ cs) (f ∷ fs) xs → ⊥
+    rest out [] h = h
+    rest out (x ∷ xs) h = out (xs, h.1)
+
+    by : Or ((x : Value) × IsCell c.kind f x) → Or ((xs : List Value) × AreCells cs fs xs) → Or ((xs : List Value) × AreCells (c ∷ cs) (f ∷ fs) xs)
+    by (inl x) (inl xs) = inl (x.0 ∷ xs.0, (x.1, xs.1))
+    by (inr out) xs = inr (λ h. first out h.0 h.1)
+    by (inl x) (inr out) = inr (λ h. rest out h.0 h.1)
+
+same_list : (xs ys : Record) → Or (xs ≡ ys)
+same_list [] [] = inl refl
+same_list [] (y ∷ ys) = inr (λ e. cc e)
+same_list (x ∷ xs) [] = inr (λ e. cc e)
+same_list (x ∷ xs) (y ∷ ys) = by (same_text x y) (same_list xs ys)
+  where
+    by : Or (x ≡ y) → Or (xs ≡ ys) → Or (x ∷ xs ≡ y ∷ ys)
+    by (inl a) (inl b) = inl (rw (a, b) refl)
+    by (inr out) b = inr (λ e. out (let same : x ≡ y = cc e in same))
+    by (inl a) (inr out) = inr (λ e. out (let same : xs ≡ ys = cc e in same))
+
+-- the first record that is no row
+record HasBad (cs : List Column) (records : List Record) : Type 0 where
+  before : List Record
+  fields : Record
+  after : List Record
+  rows : List (List Value)
+  split : records ≡ before ++ fields ∷ after
+  are : Each (AreCells cs) before rows
+  none : (values : List Value) → ¬ AreCells cs fields values
+
+rows_or_bad : (cs : List Column) (records : List Record) → ((rows : List (List Value)) × Each (AreCells cs) records rows) ⊎ HasBad cs records
+rows_or_bad cs [] = inl ([], tt)
+rows_or_bad cs (r ∷ rs) = by (a_row cs r) (rows_or_bad cs rs)
+  where
+    by : Or ((xs : List Value) × AreCells cs r xs) → ((rows : List (List Value)) × Each (AreCells cs) rs rows) ⊎ HasBad cs rs → ((rows : List (List Value)) × Each (AreCells cs) (r ∷ rs) rows) ⊎ HasBad cs (r ∷ rs)
+    by (inl x) (inl xs) = inl (x.0 ∷ xs.0, (x.1, xs.1))
+    by (inr out) more = inr (record { before = []; fields = r; after = rs; rows = []; split = refl; are = tt; none = λ values h. out (values, h) })
+    by (inl x) (inr bad) = inr (record {
+      before = r ∷ bad.before;
+      fields = bad.fields;
+      after = bad.after;
+      rows = x.0 ∷ bad.rows;
+      split = ap (λ l. r ∷ l) bad.split;
+      are = (x.1, bad.are);
+      none = bad.none;
+    })
+
+-- the front of what was read was read
+front_of : (cfg : Config) (s s2 : State) (xs ys : List ℕ) (front rest : List Record) → Reached cfg s xs (front ++ rest) s2 ys → (s1 : State) × (zs : List ℕ) × Reached cfg s xs front s1 zs
+unfolding Reached
+front_of cfg s s2 xs ys [] rest h = (s, xs, (refl, refl))
+front_of cfg s s2 xs ys (r ∷ front) rest h =
+    let more = front_of cfg h.0.1 s2 h.0.2 ys front rest h.3 in
+    (more.0, more.1, (h.0, h.1, h.2, more.2))
+
+begins : (bytes : List ℕ) (front rest : List Record) → AreAll bytes (front ++ rest) → Begins bytes front
+begins bytes front rest all = front_of default_config st.StartRecord all.0 (strip_bom bytes) all.1 front rest all.2
+
+joined : (before : List Record) (fields : Record) (after : List Record) → before ++ fields ∷ after ≡ (before ++ fields ∷ []) ++ after
+joined [] fields after = refl
+joined (b ∷ before) fields after = ap (λ l. b ∷ l) (joined before fields after)
+
+Chosen : List Column → List ℕ → Type 0
+Chosen columns bytes = ((rows : List (List Value)) × IsTableFile columns bytes rows) ⊎ ((e : FileRefusal) × (e ≢ refused.NoMemory) × IsTableFault columns bytes e)
+
+pub each_table_file_or_fault : (columns : List Column) (bytes : List ℕ)
+    → ((rows : List (List Value)) × IsTableFile columns bytes rows) ⊎ ((e : FileRefusal) × (e ≢ refused.NoMemory) × IsTableFault columns bytes e)
+unfolding Chosen
+each_table_file_or_fault columns bytes = let all = records_of_all_bytes bytes in by all.0 all.1
+  where
+    of_rows : (names : Record) (records : List Record) → AreAll bytes (names ∷ records) → HasNames columns names → ((rows : List (List Value)) × Each (AreCells columns) records rows) ⊎ HasBad columns records → Chosen columns bytes
+    of_rows names records all has (inl found) = inl (found.0, (names, records, all, has, found.1))
+    of_rows names records all has (inr bad) =
+        let whole : AreAll bytes ((names ∷ bad.before ++ bad.fields ∷ []) ++ bad.after) =
+        subst (λ l. AreAll bytes (names ∷ l)) (joined bad.before bad.fields bad.after) (subst (λ l. AreAll bytes (names ∷ l)) bad.split all) in
+        inr (
+          refused.Cell (length bad.before + 2),
+          (λ e. cc e),
+          (names, bad.before, bad.fields, bad.rows, begins bytes (names ∷ bad.before ++ bad.fields ∷ []) bad.after whole, has, bad.are, bad.none, refl),
+        )
+
+    header : (names : Record) (records : List Record) → AreAll bytes (names ∷ records) → Or (HasNames columns names) → Chosen columns bytes
+    header names records all (inl has) = of_rows names records all has (rows_or_bad columns records)
+    header names records all (inr out) = inr (refused.Header, (λ e. cc e), inr (names, begins bytes (names ∷ []) records all, out))
+
+    by : (records : List Record) → AreAll bytes records → Chosen columns bytes
+    by [] all = inr (refused.Header, (λ e. cc e), inl all)
+    by (names ∷ records) all = header names records all (same_list (map folded names) (map (λ c. c.name) columns))

@@ -1,0 +1,74 @@
+//! Laws on files, over their definitions alone.
+ghost use Rattle.std.specs.Prelude.{◌≡◌, ◌≢◌, ◌⊎◌, ◌↔◌, ◌++◌, ◌∷◌, [], ℕ, List, length};
+ghost use Rattle.std.specs.List.{All};
+ghost use Rattle.csv.specs.Reading.{strip_bom};
+ghost use Rattle.og_value.specs.declared.schema.Column.{Column};
+ghost use Rattle.og_value.specs.declared.value.Value.{Value};
+ghost use Rattle.og_file.specs.Records.{Record, AreAll, Begins};
+ghost use Rattle.og_file.specs.SavedFile.{IsSavedFault, IsSavedFile, IsVersionOne, IsVersionTwo, Pair};
+ghost use Rattle.og_file.specs.TableFile.{IsTableFault, IsTableFile};
+ghost use Rattle.og_file.specs.Writing.{IsOfKinds};
+ghost use Rattle.og_file.specs.declared.refusal.FileRefusal.{FileRefusal};
+
+/// The bytes of a file have one list of records, and the first records begin it.
+pub fn one_list_of_records()
+    ensures one { (bytes : List ℕ) (a b : List Record) → AreAll bytes a → AreAll bytes b → a ≡ b }
+    ensures first { (bytes : List ℕ) (a b : List Record) → Begins bytes a → AreAll bytes b → (rest : List Record) × (b ≡ a ++ rest) }
+{}
+
+/// A table file has one list of rows for the columns.
+pub fn one_table_file()
+    ensures { (columns : List Column) (bytes : List ℕ) (a b : List (List Value)) → IsTableFile columns bytes a → IsTableFile columns bytes b → a ≡ b }
+{}
+
+/// A saved file has one list of columns, and one list of rows on their days.
+pub fn one_saved_file()
+    ensures { (bytes : List ℕ) (c d : List Column) (p q : List Pair) → IsSavedFile bytes c p → IsSavedFile bytes d q → (c ≡ d) × (p ≡ q) }
+{}
+
+/// The rows of a table file have values of the kinds of the columns.
+pub fn rows_of_a_table_file_fit()
+    ensures { (columns : List Column) (bytes : List ℕ) (rows : List (List Value)) → IsTableFile columns bytes rows → All (IsOfKinds columns) rows }
+{}
+
+/// The rows of a saved file have values of the kinds of its columns.
+pub fn rows_of_a_saved_file_fit()
+    ensures { (bytes : List ℕ) (columns : List Column) (pairs : List Pair) → IsSavedFile bytes columns pairs → All (λ p. IsOfKinds columns p.0) pairs }
+{}
+
+/// Of a table file no fault can be said, but that memory ran out.
+pub fn no_fault_of_a_table_file()
+    ensures { (columns : List Column) (bytes : List ℕ) (rows : List (List Value)) (e : FileRefusal) → IsTableFile columns bytes rows → IsTableFault columns bytes e → e ≡ FileRefusal.NoMemory }
+{}
+
+/// Of a saved file no fault can be said, but that memory ran out.
+pub fn no_fault_of_a_saved_file()
+    ensures { (bytes : List ℕ) (c : List Column) (p : List Pair) (e : FileRefusal) → IsSavedFile bytes c p → IsSavedFault bytes e → e ≡ FileRefusal.NoMemory }
+{}
+
+/// Any bytes have records, so what is promised of the records of a file is never promised of nothing.
+pub fn records_of_all_bytes()
+    ensures { (bytes : List ℕ) → (records : List Record) × AreAll bytes records }
+{}
+
+/// A byte order mark in front changes nothing.
+pub fn a_mark_changes_nothing()
+    ensures { (bytes : List ℕ) (records : List Record) → strip_bom bytes ≡ bytes → AreAll (0xEF ∷ 0xBB ∷ 0xBF ∷ bytes) records ↔ AreAll bytes records }
+{}
+
+/// A saved file that is cut between two records is no saved file any more, not even of other rows.
+pub fn a_cut_file_is_refused()
+    ensures one { (whole cut : List ℕ) (columns : List Column) (pairs : List Pair) (front rest : List Record) → IsVersionOne whole columns pairs (length pairs)
+        → AreAll whole (front ++ rest) → rest ≢ [] → AreAll cut front
+        → (cs : List Column) (ps : List Pair) → ¬ IsSavedFile cut cs ps }
+    ensures two { (whole cut : List ℕ) (columns : List Column) (pairs : List Pair) (front rest : List Record) → IsVersionTwo whole columns pairs (length pairs)
+        → AreAll whole (front ++ rest) → rest ≢ [] → AreAll cut front
+        → (cs : List Column) (ps : List Pair) → ¬ IsSavedFile cut cs ps }
+{}
+
+/// Any bytes are a table file, or no table file for one of the reasons that a refusal says.
+pub fn each_table_file_or_fault()
+    ensures { (columns : List Column) (bytes : List ℕ)
+        → ((rows : List (List Value)) × IsTableFile columns bytes rows)
+        ⊎ ((e : FileRefusal) × (e ≢ FileRefusal.NoMemory) × IsTableFault columns bytes e) }
+{}
