@@ -43,3 +43,5 @@ mod texts;
 mod values;
 #[cfg(test)]
 mod words;
+#[cfg(test)]
+mod written_files;
