@@ -1,10 +1,11 @@
 //! Saved files that are read, and written again in version 2.
 use crate::texts::is_text;
-use og_file::{read_saved, write_saved};
+use og_file::{read_saved, rows_of_a_saved_file_fit, write_saved};
 use std::alloc::Global;
 
 // Whether the bytes are a saved file, and what it holds is written as the text.
 fn is_written(alloc: Global, bytes: &[u8], text: &str) -> bool {
+    rows_of_a_saved_file_fit();
     match read_saved(alloc, bytes) {
         Ok(saved) => match write_saved(alloc, &saved.schema, &saved.rel) {
             Ok(out) => is_text(out.as_slice(), text),
