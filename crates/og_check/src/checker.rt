@@ -57,17 +57,34 @@ fn statement<C: Catalog>(alloc: Global, known: &C, stmt: &Stmt) -> Result<Typed,
         Stmt::Insert { name, rows } => insert(alloc, known, name, rows.as_slice()),
         Stmt::Delete { name, cond } => delete(alloc, known, name, cond),
         Stmt::Update { name, sets, cond } => update(alloc, known, name, sets.as_slice(), cond),
-        Stmt::Drop { name } => drop_name(known, name),
+        Stmt::Drop { name } => Ok(Typed::Drop {
+            name: known_name(known, Names::All, name)?,
+        }),
         Stmt::Tables => Ok(Typed::Tables),
-        Stmt::Keep { name, query } => keep(alloc, known, name, query),
-        Stmt::PrintName { name, day } => print_name(known, name, *day),
-        Stmt::PrintQuery { query, day } => print_query(alloc, known, query, *day),
+        Stmt::Keep { name, query } => {
+            let (name, query) = named_query(alloc, known, Names::All, name, query)?;
+            Ok(Typed::Keep { name, query })
+        }
+        Stmt::PrintName { name, day } => Ok(Typed::PrintName {
+            name: known_name(known, Names::All, name)?,
+            day: *day,
+        }),
+        Stmt::PrintQuery { query, day } => Ok(Typed::PrintQuery {
+            query: query_of(alloc, known, Names::All, query)?,
+            day: *day,
+        }),
         Stmt::Save { name, file } => save(known, name, file),
         Stmt::OpenFile { name, file } => open_file(known, name, file),
         Stmt::ImportFile { name, file } => import_file(known, name, file),
         Stmt::Explain { query } => explain(alloc, known, query),
-        Stmt::Valid { name, day } => valid(known, name, *day),
-        Stmt::Live { name, query } => live(alloc, known, name, query),
+        Stmt::Valid { name, day } => Ok(Typed::Valid {
+            name: known_name(known, Names::All, name)?,
+            day: *day,
+        }),
+        Stmt::Live { name, query } => {
+            let (name, query) = named_query(alloc, known, Names::Tables, name, query)?;
+            Ok(Typed::Live { name, query })
+        }
     }
 }
 
@@ -200,14 +217,6 @@ fn update<C: Catalog>(
     }
 }
 
-// DROP: a name.
-fn drop_name<C: Catalog>(known: &C, name: &Name) -> Result<Typed, CheckRefusal>
-    ensures { Gives result (spec.drop_name (C.known known.now) name.now) }
-{
-    let name = known_name(known, Names::All, name)?;
-    Ok(Typed::Drop { name })
-}
-
 // A new name, and a query over the names that may be asked.
 fn named_query<C: Catalog>(
     alloc: Global,
@@ -226,40 +235,6 @@ fn named_query<C: Catalog>(
             Err(refusal)
         }
     }
-}
-
-// KEEP: a new name, and a query.
-fn keep<C: Catalog>(
-    alloc: Global,
-    known: &C,
-    name: &Name,
-    query: &QueryText,
-) -> Result<Typed, CheckRefusal>
-    ensures { Gives result (spec.keep (C.known known.now) name.now query.now) }
-{
-    let (name, query) = named_query(alloc, known, Names::All, name, query)?;
-    Ok(Typed::Keep { name, query })
-}
-
-// PRINT of a name.
-fn print_name<C: Catalog>(known: &C, name: &Name, day: RefDay) -> Result<Typed, CheckRefusal>
-    ensures { Gives result (spec.print_name (C.known known.now) name.now day) }
-{
-    let name = known_name(known, Names::All, name)?;
-    Ok(Typed::PrintName { name, day })
-}
-
-// PRINT of a query.
-fn print_query<C: Catalog>(
-    alloc: Global,
-    known: &C,
-    query: &QueryText,
-    day: RefDay,
-) -> Result<Typed, CheckRefusal>
-    ensures { Gives result (spec.print_query (C.known known.now) query.now day) }
-{
-    let query = query_of(alloc, known, Names::All, query)?;
-    Ok(Typed::PrintQuery { query, day })
 }
 
 // SAVE: a name.
@@ -310,25 +285,4 @@ fn explain<C: Catalog>(alloc: Global, known: &C, query: &QueryText) -> Result<Ty
 {
     let query = query_of(alloc, known, Names::All, query)?;
     Ok(Typed::Explain { query })
-}
-
-// VALID: a name.
-fn valid<C: Catalog>(known: &C, name: &Name, day: RefDay) -> Result<Typed, CheckRefusal>
-    ensures { Gives result (spec.valid (C.known known.now) name.now day) }
-{
-    let name = known_name(known, Names::All, name)?;
-    Ok(Typed::Valid { name, day })
-}
-
-// LIVE: a new name, and a query over tables.
-fn live<C: Catalog>(
-    alloc: Global,
-    known: &C,
-    name: &Name,
-    query: &QueryText,
-) -> Result<Typed, CheckRefusal>
-    ensures { Gives result (spec.live (C.known known.now) name.now query.now) }
-{
-    let (name, query) = named_query(alloc, known, Names::Tables, name, query)?;
-    Ok(Typed::Live { name, query })
 }
