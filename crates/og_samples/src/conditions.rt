@@ -21,11 +21,6 @@ fn differ<H: AllocGlobal + Abort>(rt: &H, left: Expr, right: Expr) -> Box<Cond> 
     Box::new(rt.alloc(), cond).expect(rt, "memory")
 }
 
-// Whether the period at the place of the row may overlap that of the row beside it.
-fn may_overlap<H: AllocGlobal + Abort>(rt: &H, row: &Row, place: usize) -> bool {
-    may_hold(row, overlap(rt, Expr::Column(place), Expr::Column(5)))
-}
-
 #[test]
 fn a_pair_that_is_apart_on_all_days_is_told_at_once(rt: HostRuntime) {
     let row = row(
@@ -40,5 +35,6 @@ fn a_pair_that_is_apart_on_all_days_is_told_at_once(rt: HostRuntime) {
     let early = Expr::Lit(cell(&rt, Kind::Period, "[2019-01-01,2020-01-25)"));
     assert!(rt; !may_hold(&row, overlap(&rt, Expr::Column(5), early)));
     assert!(rt; !may_hold(&row, differ(&rt, Expr::Column(0), Expr::Column(3))));
-    assert!(rt; may_overlap(&rt, &row, 2) && !may_overlap(&rt, &row, 0));
+    assert!(rt; may_hold(&row, overlap(&rt, Expr::Column(2), Expr::Column(5))));
+    assert!(rt; !may_hold(&row, overlap(&rt, Expr::Column(0), Expr::Column(5))));
 }

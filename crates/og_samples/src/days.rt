@@ -1,5 +1,5 @@
 //! Days: their numbers and their texts.
-use crate::texts::is_text;
+use crate::listing::is_text;
 use og_base::{ExtDay, RefDay, read_day, write_day};
 use std::alloc::Global;
 

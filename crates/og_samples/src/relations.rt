@@ -2,7 +2,8 @@
 ghost use Rattle.std.specs.Prelude.{◌≤◌};
 ghost use Rattle.og_par.specs.Limits.{max_workers};
 
-use crate::texts::{cell, is_text, overlap, point, row};
+use crate::listing::{are_lines, is_text, lists};
+use crate::texts::{cell, overlap, point, row};
 use og_base::{NoMemory, RefDay, RtSet, read_ref_day, write_rt};
 use og_expr::CondDays;
 use og_ops::{Hit, test_pair};
@@ -10,41 +11,10 @@ use og_par::OpenGate;
 use og_query::Expr;
 use og_rel::Rel;
 use og_time::OngoingPoint;
-use og_value::{FixedRow, Kind, Row, Value, write_cell, write_fixed};
+use og_value::{Kind, Row, Value, write_cell};
 use std::alloc::Global;
 use std::process::Abort;
 use std::thread::Threads;
-
-// Appends the cells of the row with commas between them, as a line.
-fn add_line(row: &FixedRow, out: &mut Vec<u8>) -> Result<(), NoMemory> {
-    for i in 0..row.len() {
-        if i > 0 {
-            out.push(b',')?;
-        }
-        write_fixed(row.value(i), out)?;
-    }
-    out.push(b'\n')?;
-    Ok(())
-}
-
-// Whether these are the lines of the rows.
-fn are_lines(alloc: Global, rows: &[FixedRow], text: &str) -> bool {
-    let mut out = Vec::new(alloc);
-    for row in rows {
-        if add_line(row, &mut out).is_err() {
-            return false;
-        }
-    }
-    is_text(out.as_slice(), text)
-}
-
-// Whether these are the lines of the relation on the day.
-fn has_lines(alloc: Global, rel: &Rel<Row>, day: RefDay, text: &str) -> bool {
-    match rel.at(day) {
-        Ok(rows) => are_lines(alloc, rows.as_slice(), text),
-        Err(_) => false,
-    }
-}
 
 // All days.
 fn all_days<H: AllocGlobal + Abort>(rt: &H) -> RtSet {
@@ -73,14 +43,6 @@ fn twice<H: AllocGlobal + Abort>(rt: &H) -> Rel<Row> {
     );
     add_row(rt, row(rt, []), RtSet::empty(rt.alloc()), &mut rel);
     rel
-}
-
-/// Whether the relation is of that many rows, and these are its lines on the day.
-pub fn lists(alloc: Global, rel: &Rel<Row>, len: usize, day: &str, text: &str) -> bool {
-    match read_ref_day(day.as_bytes()) {
-        Ok(day) => rel.len() == len && has_lines(alloc, rel, day, text),
-        Err(_) => false,
-    }
 }
 
 #[test]

@@ -1,5 +1,6 @@
 //! What the tests read from texts, and what they compare with texts. A test stops where a text that it reads is
 //! refused, and a helper that tells whether something is so says no where memory runs out.
+use crate::listing::is_text;
 use og_base::{ExtDay, NoMemory, RtSet, read_day, read_rt, write_rt};
 use og_query::{Cond, Expr};
 use og_time::{OngoingPeriod, OngoingPoint, read_period, read_point};
@@ -45,11 +46,6 @@ pub fn overlap<H: AllocGlobal + Abort>(rt: &H, left: Expr, right: Expr) -> Box<C
         right,
     };
     Box::new(rt.alloc(), cond).expect(rt, "memory")
-}
-
-/// Whether the bytes are the text.
-pub fn is_text(bytes: &[u8], text: &str) -> bool {
-    bytes == text.as_bytes()
 }
 
 /// Whether the set has this text.

@@ -1,5 +1,5 @@
 //! Names, texts and schemas, and the cells of values by their texts.
-use crate::texts::is_text;
+use crate::listing::is_text;
 use og_value::{
     CellRefusal, Column, Kind, Name, NameRefusal, Schema, Text, TextRefusal, Value, read_cell,
     write_cell,

@@ -6,7 +6,7 @@
 //! then held against the grammar, which is narrower than what clap takes (specs/Shape.antt).
 //! `one_command` says that words are at most one command.
 //!
-//! No tests here: the call is tested in og_samples.
+//! No tests here: the call is tested in og_file_samples.
 #![tactic(auto)]
 
 mod command;

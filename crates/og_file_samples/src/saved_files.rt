@@ -1,7 +1,7 @@
 //! Saved files of both versions: what they hold, and which fault they have.
-use crate::texts::is_text;
 use og_base::{NoMemory, write_rt};
 use og_file::{FileRefusal, Saved, read_saved};
+use og_samples::is_text;
 use og_value::{Column, Kind, Row, write_cell};
 use std::alloc::Global;
 

@@ -1,6 +1,6 @@
 //! What saved files hold on a day.
-use crate::relations::lists;
 use og_file::read_saved;
+use og_samples::lists;
 use std::alloc::Global;
 
 // Whether the file holds so many rows, and these are its lines on the day.

@@ -1,6 +1,6 @@
 //! The words of a command line, and the command that they are.
-use crate::texts::is_text;
 use og_base::{Words, read_ref_day};
+use og_samples::is_text;
 use og_words::{Command, read_words};
 use std::alloc::Global;
 use std::process::Abort;

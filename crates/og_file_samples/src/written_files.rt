@@ -1,6 +1,6 @@
 //! Saved files that are read, and written again in version 2.
-use crate::texts::is_text;
 use og_file::{read_saved, rows_of_a_saved_file_fit, write_saved};
+use og_samples::is_text;
 use std::alloc::Global;
 
 // Whether the bytes are a saved file, and what it holds is written as the text.

@@ -1,8 +1,8 @@
 //! Table files: their rows, and which fault they have.
 use crate::saved_files::add_cells;
-use crate::texts::is_text;
 use og_base::NoMemory;
 use og_file::{FileRefusal, read_saved, read_table};
+use og_samples::is_text;
 use og_value::{Row, Schema};
 use std::alloc::Global;
 use std::process::Abort;
