@@ -1,6 +1,8 @@
 pub mod BoundaryLemmas
 pub mod ByteLemmas
+pub mod Choices
 pub mod CivilDays
+pub mod DayChoice
 pub mod DayTexts
 pub mod OldSetTexts
 pub mod OldTexts

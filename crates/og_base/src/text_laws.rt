@@ -1,5 +1,5 @@
 //! Laws on the texts of days and of sets of days, over their definitions alone.
-ghost use Rattle.std.specs.Prelude.{◌≡◌, ◌↔◌, ◌≤ℤ◌, ◌<ℤ◌, ℕ, ℤ, pos, List, length};
+ghost use Rattle.std.specs.Prelude.{◌≡◌, ◌⊎◌, ◌↔◌, ◌≤ℤ◌, ◌<ℤ◌, ℕ, ℤ, pos, List, length};
 ghost use Rattle.jiff_core.specs.Calendar.{IsBetween, days_from_civil};
 ghost use Rattle.og_base.specs.Calendar.{IsRefDayText, IsDayText};
 ghost use Rattle.og_base.specs.Ranges.{Range, IsNormal, holds_day};
@@ -14,6 +14,13 @@ pub fn form_of_day_texts()
     ensures form { (text : List ℕ) (n : ℤ) → IsRefDayText text n ↔ IsPlainDayText text n }
     ensures ten { (y : ℤ) (m d : ℕ) → pos 0 ≤ℤ y → length (day_bytes y m d) ≡ 10 }
     ensures thirteen { (y : ℤ) (m d : ℕ) → y <ℤ pos 0 → length (day_bytes y m d) ≡ 13 }
+{}
+
+/// Any bytes are the text of a reference day, or of none; and they are the text of a day, the
+/// infinities among them, or of none.
+pub fn a_day_text_or_none()
+    ensures reference { (text : List ℕ) → ((day : ℤ) × IsRefDayText text day) ⊎ ((day : ℤ) → ¬ IsRefDayText text day) }
+    ensures extended { (text : List ℕ) → ((day : ℤ) × IsDayText text day) ⊎ ((day : ℤ) → ¬ IsDayText text day) }
 {}
 
 /// Each day text of the earlier calendar, whose first day was 0001-01-01, is a day text with the

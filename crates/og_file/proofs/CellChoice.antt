@@ -1,14 +1,14 @@
 -- Each text is a cell of a kind, or none.
-use Rattle.std.proofs.Common.{◌≡◌, ◌⊎◌, ◌+◌, ◌<◌, ◌<ℤ◌, ◌^◌, ◌++◌, ◌∷◌, [], ◌∙◌, ℕ, ℤ, List, length, codes, refl, ap, inl, inr}
+use Rattle.std.proofs.Common.{◌≡◌, ◌⊎◌, ◌+◌, ◌<◌, ◌<ℤ◌, ◌^◌, ◌++◌, ◌∷◌, [], ◌∙◌, ℕ, ℤ, List, length, codes, refl, inl, inr}
 use Rattle.std.specs.Prelude.{FitsSigned, slice_index}
-use Rattle.std.specs.Char.{digit_value}
 use Rattle.std.specs.Int.{w64}
 use Rattle.std.specs.Int.Signed.{mag}
-use Rattle.std.specs.Str.{IsUtf8, is_utf8}
+use Rattle.std.specs.Str.{IsUtf8}
 use Rattle.std.specs.Str.Parse.{AllDigits, signed_digits_value, without_leading_sign}
-use Rattle.std.proofs.lemmas.Str.{IsUtf8-from_is_utf8, is_utf8-from_IsUtf8}
 use Rattle.og_base.specs.Bytes.{Lacks, IsCutAt}
 use Rattle.og_base.specs.Calendar.{IsDayText, IsRefDayText, before_all, after_all}
+use Rattle.og_base.proofs.Choices.{Or, cut_or_lacks, digits, ends_with, less, less_z, number, same_text, utf8}
+use Rattle.og_base.proofs.DayChoice.{a_day, ref_day}
 use Rattle.og_time.specs.Point.{Point, IsPointText, IsEndText, AreEndTexts, IsWholeText}
 use Rattle.og_time.specs.Period.{Period, IsPeriodText}
 use Rattle.og_time.proofs.PointTexts.{ends_are_texts, texts_are_ends, texts_are_whole, no_ends}
@@ -18,7 +18,6 @@ use Rattle.og_value.specs.declared.kind.Kind.{Kind}
 use Rattle.og_value.specs.declared.kind.Kind.TheVariants as k
 use Rattle.og_value.specs.declared.value.Value.{Value}
 use Rattle.og_value.specs.declared.value.Value.TheVariants as v
-use Rattle.og_file.proofs.DayChoice.{Or, a_day, by_bool, cut_or_lacks, less, less_z, number, ref_day, same_text}
 
 -- ---- points
 
@@ -69,34 +68,9 @@ a_point text = by (cut_or_lacks 43 text)
 
 -- ---- periods
 
-nothing : (front : List ℕ) → [] ≡ front ++ 41 ∷ [] → ⊥
-nothing [] e = cc e
-nothing (x ∷ front) e = cc e
-
-closed : (text : List ℕ) → Or ((front : List ℕ) × (text ≡ front ++ 41 ∷ []))
-closed [] = inr (λ h. nothing h.0 h.1)
-closed (x ∷ []) = by (number x 41)
-  where
-    other : (x ≡ 41 → ⊥) → (front : List ℕ) → x ∷ [] ≡ front ++ 41 ∷ [] → ⊥
-    other out [] e = out (let same : x ≡ 41 = cc e in same)
-    other out (y ∷ front) e = nothing front (let rest : [] ≡ front ++ 41 ∷ [] = cc e in rest)
-
-    by : Or (x ≡ 41) → Or ((front : List ℕ) × (x ∷ [] ≡ front ++ 41 ∷ []))
-    by (inl same) = inl ([], ap (λ z. z ∷ []) same)
-    by (inr out) = inr (λ h. other out h.0 h.1)
-closed (x ∷ y ∷ ys) = by (closed (y ∷ ys))
-  where
-    longer : ((front : List ℕ) × (y ∷ ys ≡ front ++ 41 ∷ []) → ⊥) → (front : List ℕ) → x ∷ y ∷ ys ≡ front ++ 41 ∷ [] → ⊥
-    longer out [] e = cc e
-    longer out (z ∷ front) e = out (front, let rest : y ∷ ys ≡ front ++ 41 ∷ [] = cc e in rest)
-
-    by : Or ((front : List ℕ) × (y ∷ ys ≡ front ++ 41 ∷ [])) → Or ((front : List ℕ) × (x ∷ y ∷ ys ≡ front ++ 41 ∷ []))
-    by (inl f) = inl (x ∷ f.0, ap (λ l. x ∷ l) f.1)
-    by (inr out) = inr (λ h. longer out h.0 h.1)
-
 inside : (text : List ℕ) → Or ((within : List ℕ) × (text ≡ codes "[" ++ within ++ codes ")"))
 inside [] = inr (λ h. cc h.1)
-inside (x ∷ xs) = by (number x 91) (closed xs)
+inside (x ∷ xs) = by (number x 91) (ends_with (41 ∷ []) xs)
   where
     by : Or (x ≡ 91) → Or ((front : List ℕ) × (xs ≡ front ++ 41 ∷ [])) → Or ((within : List ℕ) × (x ∷ xs ≡ codes "[" ++ within ++ codes ")"))
     by (inl same) (inl f) = inl (f.0, rw (same, f.1) refl)
@@ -121,15 +95,6 @@ a_period text = by (inside text)
     by (inr out) = inr (λ h. out (h.1.0 ++ 44 ∷ h.1.1, h.1.2 ∙ bracketed-cut h.1.0 h.1.1))
 
 -- ---- numbers
-
-digits : (ds : List ℕ) → Or (AllDigits 10 ds)
-digits [] = inl tt
-digits (c ∷ cs) = by (less (digit_value c) 10) (digits cs)
-  where
-    by : Or (digit_value c < 10) → Or (AllDigits 10 cs) → Or (AllDigits 10 (c ∷ cs))
-    by (inl a) (inl b) = inl (a, b)
-    by (inr out) b = inr (λ h. out h.0)
-    by (inl a) (inr out) = inr (λ h. out h.1)
 
 fits : (z : ℤ) → Or (FitsSigned w64 z)
 fits z = by (less (mag z) (2 ^ 63))
@@ -160,7 +125,7 @@ a_cell k.Int text = by (a_number text)
     by : Or ((n : ℤ) × IsIntText text n) → Or ((x : Value) × IsCell k.Int text x)
     by (inl n) = inl (v.Int n.0, (n.0, n.1, refl))
     by (inr out) = inr (λ h. out (h.1.0, h.1.1))
-a_cell k.Text text = by (by_bool (is_utf8 text) (IsUtf8-from_is_utf8 text, is_utf8-from_IsUtf8 text))
+a_cell k.Text text = by (utf8 text)
   where
     by : Or (IsUtf8 text) → Or ((x : Value) × IsCell k.Text text x)
     by (inl is) = inl (v.Text text, (is, refl))

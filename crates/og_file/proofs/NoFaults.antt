@@ -2,7 +2,7 @@
 use Rattle.std.proofs.Common.{◌≡◌, ◌⊎◌, ◌++◌, ◌∷◌, ◌∙◌, ℕ, List, [], length, refl, sym, ap, subst, inl, inr}
 use Rattle.og_value.specs.declared.schema.Column.{Column}
 use Rattle.og_value.specs.declared.value.Value.{Value}
-use Rattle.og_file.specs.Records.{Record, Begins, Each}
+use Rattle.og_file.specs.Records.{Record, AreAll, Begins, Each}
 use Rattle.og_file.specs.SavedFile.{Pair, AreColumns, AreSchema, IsHeader, IsNoRow, IsNoEnd, IsRow, IsSavedFault, IsSavedFile, IsVersionOne, IsVersionTwo, LacksHeader, LacksRowOne, LacksRowTwo, MissesCount, mark, one, two}
 use Rattle.og_file.specs.TableFile.{AreCells, HasNames, IsTableFault, IsTableFile}
 use Rattle.og_file.specs.declared.refusal.FileRefusal.{FileRefusal}
@@ -19,15 +19,20 @@ value_at is (b ∷ before) r rest [] are = absurd are
 value_at is (b ∷ before) r rest (x ∷ xs) are = value_at is before r rest xs are.1
 
 -- the same, of records that are those
-value_of : {A : Type 0} (is : Record → A → Type 0) (rs before : List Record) (r : Record) (rest : List Record) (xs : List A) → rs ≡ before ++ r ∷ rest → Each is rs xs → (x : A) × is r x
+pub value_of : {A : Type 0} (is : Record → A → Type 0) (rs before : List Record) (r : Record) (rest : List Record) (xs : List A) → rs ≡ before ++ r ∷ rest → Each is rs xs → (x : A) × is r x
 value_of is rs before r rest xs e are = value_at is before r rest xs (subst (λ l. Each is l xs) e are)
 
 -- what stands behind the first records and one more
-behind_more : (before : List Record) (r : Record) (rest : List Record) → (before ++ r ∷ []) ++ rest ≡ before ++ r ∷ rest
+pub behind_more : (before : List Record) (r : Record) (rest : List Record) → (before ++ r ∷ []) ++ rest ≡ before ++ r ∷ rest
 behind_more [] r rest = refl
 behind_more (b ∷ before) r rest = ap (λ l. b ∷ l) (behind_more before r rest)
 
-behind_two : (before : List Record) (r q : Record) (rest : List Record) → (before ++ r ∷ q ∷ []) ++ rest ≡ before ++ r ∷ q ∷ rest
+-- the same, where others stand before them
+pub behind_far : (front before : List Record) (r : Record) (rest : List Record) → (front ++ before ++ r ∷ []) ++ rest ≡ front ++ before ++ r ∷ rest
+behind_far [] before r rest = behind_more before r rest
+behind_far (x ∷ front) before r rest = ap (λ l. x ∷ l) (behind_far front before r rest)
+
+pub behind_two : (before : List Record) (r q : Record) (rest : List Record) → (before ++ r ∷ q ∷ []) ++ rest ≡ before ++ r ∷ q ∷ rest
 behind_two [] r q rest = refl
 behind_two (b ∷ before) r q rest = ap (λ l. b ∷ l) (behind_two before r q rest)
 
@@ -47,12 +52,16 @@ at_or_before (x ∷ rs) (b ∷ before) last r rest e =
 
 -- ---- table files
 
+-- bytes with these names have no fault of the header
+pub names_of_table : (cs : List Column) (bytes : List ℕ) (names : Record) (rows : List Record) → AreAll bytes (names ∷ rows) → HasNames cs names → IsTableFault cs bytes refused.Header → ⊥
+names_of_table cs bytes names rows all has (inl none) = cc (one_list bytes [] (names ∷ rows) none all)
+names_of_table cs bytes names rows all has (inr (others, begun, differ)) =
+    let more = begins_all bytes (others ∷ []) (names ∷ rows) begun all in
+    differ (subst (HasNames cs) (behind names others rows more.0 more.1).0 has)
+
 -- a table file has no fault
 pub no_table_fault : (cs : List Column) (bytes : List ℕ) (rows : List (List Value)) (e : FileRefusal) → IsTableFile cs bytes rows → IsTableFault cs bytes e → e ≡ refused.NoMemory
-no_table_fault cs bytes rows refused.Header is (inl none) = cc (one_list bytes [] (is.0 ∷ is.1) none is.2)
-no_table_fault cs bytes rows refused.Header is (inr (names, begun, differ)) =
-    let all = begins_all bytes (names ∷ []) (is.0 ∷ is.1) begun is.2 in
-    absurd (differ (subst (HasNames cs) (behind is.0 names is.1 all.0 all.1).0 is.3))
+no_table_fault cs bytes rows refused.Header is fault = absurd (names_of_table cs bytes is.0 is.1 is.2 is.3 fault)
 no_table_fault cs bytes rows (refused.Cell number) is (names, before, fields, values, begun, has, are, none, at) =
     let all = begins_all bytes (names ∷ before ++ fields ∷ []) (is.0 ∷ is.1) begun is.2 in
     let same = (behind is.0 names is.1 ((before ++ fields ∷ []) ++ all.0) all.1).1 ∙ behind_more before fields all.0 in
@@ -63,16 +72,23 @@ no_table_fault cs bytes rows refused.NoMemory is fault = refl
 
 -- ---- saved files
 
--- of version 1
-header_of_one : (bytes : List ℕ) (cs : List Column) (ps : List Pair) (n : ℕ) → IsVersionOne bytes cs ps n → LacksHeader bytes → ⊥
-header_of_one bytes cs ps n is (inl none) = cc (one_list bytes [] (is.0 ∷ is.1) none is.2)
-header_of_one bytes cs ps n is (inr (inl (first, begun, other, none))) =
-    let all = begins_all bytes (first ∷ []) (is.0 ∷ is.1) begun is.2 in
-    none cs n (subst (λ r. IsHeader r cs n) (behind is.0 first is.1 all.0 all.1).0 is.3)
-header_of_one bytes cs ps n is (inr (inr (inl alone))) = no_mark is.0 cs n (behind is.0 mark is.1 [] (one_list bytes (is.0 ∷ is.1) (mark ∷ []) is.2 alone)).0 is.3
-header_of_one bytes cs ps n is (inr (inr (inr (second, begun, none)))) =
-    let all = begins_all bytes (mark ∷ second ∷ []) (is.0 ∷ is.1) begun is.2 in
-    no_mark is.0 cs n (behind is.0 mark is.1 (second ∷ all.0) all.1).0 is.3
+-- of version 1: bytes with this header, and a file
+pub header_of_one : (bytes : List ℕ) (header : Record) (rows : List Record) (cs : List Column) (n : ℕ) → AreAll bytes (header ∷ rows) → IsHeader header cs n → LacksHeader bytes → ⊥
+header_of_one bytes header rows cs n all has (inl none) = cc (one_list bytes [] (header ∷ rows) none all)
+header_of_one bytes header rows cs n all has (inr (inl (first, begun, other, none))) =
+    let more = begins_all bytes (first ∷ []) (header ∷ rows) begun all in
+    none cs n (subst (λ r. IsHeader r cs n) (behind header first rows more.0 more.1).0 has)
+header_of_one bytes header rows cs n all has (inr (inr (inl alone))) = no_mark header cs n (behind header mark rows [] (one_list bytes (header ∷ rows) (mark ∷ []) all alone)).0 has
+header_of_one bytes header rows cs n all has (inr (inr (inr (second, begun, none)))) =
+    let more = begins_all bytes (mark ∷ second ∷ []) (header ∷ rows) begun all in
+    no_mark header cs n (behind header mark rows (second ∷ more.0) more.1).0 has
+
+pub end_of_one : (bytes : List ℕ) (header : Record) (rows : List Record) (cs : List Column) (n number : ℕ) → AreAll bytes (header ∷ rows) → IsHeader header cs n → LacksRowTwo bytes number → ⊥
+end_of_one bytes header rows cs n number all has (inl (second, before, fields, columns, pairs, begun, names, are, none, end, at)) =
+    let more = begins_all bytes (mark ∷ second ∷ before ++ fields ∷ []) (header ∷ rows) begun all in
+    no_mark header cs n (behind header mark rows ((second ∷ before ++ fields ∷ []) ++ more.0) more.1).0 has
+end_of_one bytes header rows cs n number all has (inr (second, records, columns, pairs, whole, names, are, at)) =
+    no_mark header cs n (behind header mark rows (second ∷ records) (one_list bytes (header ∷ rows) (mark ∷ second ∷ records) all whole)).0 has
 
 row_of_one : (bytes : List ℕ) (cs : List Column) (ps : List Pair) (n number : ℕ) → IsVersionOne bytes cs ps n → LacksRowOne bytes number → ⊥
 row_of_one bytes cs ps n number is (header, before, fields, columns, count, pairs, begun, has, are, none, at) =
@@ -82,30 +98,23 @@ row_of_one bytes cs ps n number is (header, before, fields, columns, count, pair
     let row = value_of (IsRow one cs) is.1 before fields all.0 ps (same.1 ∙ behind_more before fields all.0) is.4 in
     none row.0 (subst (λ c. IsRow one c fields row.0) columns_same row.1)
 
-end_of_one : (bytes : List ℕ) (cs : List Column) (ps : List Pair) (n number : ℕ) → IsVersionOne bytes cs ps n → LacksRowTwo bytes number → ⊥
-end_of_one bytes cs ps n number is (inl (header, before, fields, columns, pairs, begun, has, are, none, end, at)) =
-    let all = begins_all bytes (mark ∷ header ∷ before ++ fields ∷ []) (is.0 ∷ is.1) begun is.2 in
-    no_mark is.0 cs n (behind is.0 mark is.1 ((header ∷ before ++ fields ∷ []) ++ all.0) all.1).0 is.3
-end_of_one bytes cs ps n number is (inr (header, rows, columns, pairs, all, has, are, at)) =
-    no_mark is.0 cs n (behind is.0 mark is.1 (header ∷ rows) (one_list bytes (is.0 ∷ is.1) (mark ∷ header ∷ rows) is.2 all)).0 is.3
+-- of version 2: bytes with the mark, and this header behind it, and a file
+pub header_of_two : (bytes : List ℕ) (header : Record) (rows : List Record) (cs : List Column) → AreAll bytes (mark ∷ header ∷ rows) → AreSchema header cs → LacksHeader bytes → ⊥
+header_of_two bytes header rows cs all has (inl none) = cc (one_list bytes [] (mark ∷ header ∷ rows) none all)
+header_of_two bytes header rows cs all has (inr (inl (first, begun, other, none))) =
+    let more = begins_all bytes (first ∷ []) (mark ∷ header ∷ rows) begun all in
+    other (sym (behind mark first (header ∷ rows) more.0 more.1).0)
+header_of_two bytes header rows cs all has (inr (inr (inl alone))) =
+    cc (behind mark mark (header ∷ rows) [] (one_list bytes (mark ∷ header ∷ rows) (mark ∷ []) all alone)).1
+header_of_two bytes header rows cs all has (inr (inr (inr (second, begun, none)))) =
+    let more = begins_all bytes (mark ∷ second ∷ []) (mark ∷ header ∷ rows) begun all in
+    let same = behind header second rows more.0 (behind mark mark (header ∷ rows) (second ∷ more.0) more.1).1 in
+    none cs (subst (λ r. AreSchema r cs) same.0 has)
 
--- of version 2
-header_of_two : (bytes : List ℕ) (cs : List Column) (ps : List Pair) (n : ℕ) → IsVersionTwo bytes cs ps n → LacksHeader bytes → ⊥
-header_of_two bytes cs ps n is (inl none) = cc (one_list bytes [] (mark ∷ is.0 ∷ is.1 ++ (is.2 ∷ []) ∷ []) none is.3)
-header_of_two bytes cs ps n is (inr (inl (first, begun, other, none))) =
-    let all = begins_all bytes (first ∷ []) (mark ∷ is.0 ∷ is.1 ++ (is.2 ∷ []) ∷ []) begun is.3 in
-    other (sym (behind mark first (is.0 ∷ is.1 ++ (is.2 ∷ []) ∷ []) all.0 all.1).0)
-header_of_two bytes cs ps n is (inr (inr (inl alone))) =
-    cc (behind mark mark (is.0 ∷ is.1 ++ (is.2 ∷ []) ∷ []) [] (one_list bytes (mark ∷ is.0 ∷ is.1 ++ (is.2 ∷ []) ∷ []) (mark ∷ []) is.3 alone)).1
-header_of_two bytes cs ps n is (inr (inr (inr (second, begun, none)))) =
-    let all = begins_all bytes (mark ∷ second ∷ []) (mark ∷ is.0 ∷ is.1 ++ (is.2 ∷ []) ∷ []) begun is.3 in
-    let same = behind is.0 second (is.1 ++ (is.2 ∷ []) ∷ []) all.0 (behind mark mark (is.0 ∷ is.1 ++ (is.2 ∷ []) ∷ []) (second ∷ all.0) all.1).1 in
-    none cs (subst (λ r. AreSchema r cs) same.0 is.4)
-
-row_of_two : (bytes : List ℕ) (cs : List Column) (ps : List Pair) (n number : ℕ) → IsVersionTwo bytes cs ps n → LacksRowOne bytes number → ⊥
-row_of_two bytes cs ps n number is (header, before, fields, columns, count, pairs, begun, has, are, none, at) =
-    let all = begins_all bytes (header ∷ before ++ fields ∷ []) (mark ∷ is.0 ∷ is.1 ++ (is.2 ∷ []) ∷ []) begun is.3 in
-    no_mark header columns count (sym (behind mark header (is.0 ∷ is.1 ++ (is.2 ∷ []) ∷ []) ((before ++ fields ∷ []) ++ all.0) all.1).0) has
+row_of_two : (bytes : List ℕ) (rows : List Record) (number : ℕ) → AreAll bytes (mark ∷ rows) → LacksRowOne bytes number → ⊥
+row_of_two bytes rows number all (header, before, fields, columns, count, pairs, begun, has, are, none, at) =
+    let more = begins_all bytes (header ∷ before ++ fields ∷ []) (mark ∷ rows) begun all in
+    no_mark header columns count (sym (behind mark header rows ((before ++ fields ∷ []) ++ more.0) more.1).0) has
 
 -- the record stands among the rows, or it is the last one and says the number of rows
 no_row_or_end : (bytes : List ℕ) (cs : List Column) (ps : List Pair) (n : ℕ) (is : IsVersionTwo bytes cs ps n) (header : Record) (before : List Record) (fields : Record)
@@ -145,6 +154,17 @@ end_of_two bytes cs ps n number is (inr (header, rows, columns, pairs, all, has,
     let row = value_of (IsRow two columns) rows is.1 (is.2 ∷ []) [] pairs (sym same.1) are in
     end_is_no_row columns (is.2 ∷ []) n (is.2, refl, is.6) has.1 row.0 row.1
 
+-- bytes of either form have no other fault than the number of rows
+pub no_header_fault : (bytes : List ℕ) (cs : List Column) (ps : List Pair) (n : ℕ) → IsVersionOne bytes cs ps n ⊎ IsVersionTwo bytes cs ps n → LacksHeader bytes → ⊥
+no_header_fault bytes cs ps n (inl is) fault = header_of_one bytes is.0 is.1 cs n is.2 is.3 fault
+no_header_fault bytes cs ps n (inr is) fault = header_of_two bytes is.0 (is.1 ++ (is.2 ∷ []) ∷ []) cs is.3 is.4 fault
+
+pub no_row_fault : (bytes : List ℕ) (cs : List Column) (ps : List Pair) (n number : ℕ) → IsVersionOne bytes cs ps n ⊎ IsVersionTwo bytes cs ps n → LacksRowOne bytes number ⊎ LacksRowTwo bytes number → ⊥
+no_row_fault bytes cs ps n number (inl is) (inl fault) = row_of_one bytes cs ps n number is fault
+no_row_fault bytes cs ps n number (inl is) (inr fault) = end_of_one bytes is.0 is.1 cs n number is.2 is.3 fault
+no_row_fault bytes cs ps n number (inr is) (inl fault) = row_of_two bytes (is.0 ∷ is.1 ++ (is.2 ∷ []) ∷ []) number is.3 fault
+no_row_fault bytes cs ps n number (inr is) (inr fault) = end_of_two bytes cs ps n number is fault
+
 -- the number of rows
 right_count : (bytes : List ℕ) (cs : List Column) (ps : List Pair) (said found : ℕ) → IsSavedFile bytes cs ps → MissesCount bytes said found → ⊥
 right_count bytes cs ps said found is (columns, pairs, other, counted, differ) =
@@ -153,11 +173,7 @@ right_count bytes cs ps said found is (columns, pairs, other, counted, differ) =
 
 -- a saved file has no fault
 pub no_saved_fault : (bytes : List ℕ) (cs : List Column) (ps : List Pair) (e : FileRefusal) → IsSavedFile bytes cs ps → IsSavedFault bytes e → e ≡ refused.NoMemory
-no_saved_fault bytes cs ps refused.Header (inl is) fault = absurd (header_of_one bytes cs ps (length ps) is fault)
-no_saved_fault bytes cs ps refused.Header (inr is) fault = absurd (header_of_two bytes cs ps (length ps) is fault)
-no_saved_fault bytes cs ps (refused.Cell number) (inl is) (inl fault) = absurd (row_of_one bytes cs ps (length ps) number is fault)
-no_saved_fault bytes cs ps (refused.Cell number) (inl is) (inr fault) = absurd (end_of_one bytes cs ps (length ps) number is fault)
-no_saved_fault bytes cs ps (refused.Cell number) (inr is) (inl fault) = absurd (row_of_two bytes cs ps (length ps) number is fault)
-no_saved_fault bytes cs ps (refused.Cell number) (inr is) (inr fault) = absurd (end_of_two bytes cs ps (length ps) number is fault)
+no_saved_fault bytes cs ps refused.Header is fault = absurd (no_header_fault bytes cs ps (length ps) is fault)
+no_saved_fault bytes cs ps (refused.Cell number) is fault = absurd (no_row_fault bytes cs ps (length ps) number is fault)
 no_saved_fault bytes cs ps (refused.RowCount said found) is fault = absurd (right_count bytes cs ps said found is fault)
 no_saved_fault bytes cs ps refused.NoMemory is fault = refl

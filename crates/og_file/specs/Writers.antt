@@ -1,4 +1,4 @@
--- What a writer of records of any lengths has written. Beside private functions alone.
+-- What a writer of records of any lengths has written.
 use Rattle.std.specs.Prelude.{◌≡◌, ◌++◌, ◌^◌, ◌-◌, ◌==◌, ⊤, ℕ, Bool, List, [], ◌∷◌, false, true, not, min, length, Some, Vec}
 use Rattle.std.specs.declared.alloc.Global.{Global}
 use Rattle.csv.specs.Writing.{default_writer, with_flexible, writer_setup, fields_written, has_written, text_written, field_text, row_body}

@@ -18,7 +18,9 @@ pub(crate) fn cells_of(
     ensures cells { IfOk result (λ row. AreCells schema.now (take (length schema.now) (fields_of fields.now)) row) }
     ensures none { result ≡ Err CellRefusal.NotACell → (row : List values.Value) → ¬ AreCells schema.now (take (length schema.now) (fields_of fields.now)) row }
 {
-    let mut values = Vec::new(alloc);
+    let Ok(mut values) = Vec::with_capacity(alloc, schema.len()) else {
+        return Err(CellRefusal::NoMemory);
+    };
     'columns: for i in 0..schema.len() {
         let Some(field) = fields.get(i) else {
             return Err(CellRefusal::NotACell);

@@ -2,6 +2,7 @@
 ghost use Rattle.std.specs.Prelude.{◌≡◌, ◌≢◌, ◌⊎◌, ◌↔◌, ◌++◌, ◌∷◌, [], ℕ, List, length};
 ghost use Rattle.std.specs.List.{All};
 ghost use Rattle.csv.specs.Reading.{strip_bom};
+ghost use Rattle.og_value.specs.Words.{IsLowerWord};
 ghost use Rattle.og_value.specs.declared.schema.Column.{Column};
 ghost use Rattle.og_value.specs.declared.value.Value.{Value};
 ghost use Rattle.og_file.specs.Records.{Record, AreAll, Begins};
@@ -9,6 +10,8 @@ ghost use Rattle.og_file.specs.SavedFile.{IsSavedFault, IsSavedFile, IsVersionOn
 ghost use Rattle.og_file.specs.TableFile.{IsTableFault, IsTableFile};
 ghost use Rattle.og_file.specs.Writing.{IsOfKinds};
 ghost use Rattle.og_file.specs.declared.refusal.FileRefusal.{FileRefusal};
+
+use og_value::Schema;
 
 /// The bytes of a file have one list of records, and the first records begin it.
 pub fn one_list_of_records()
@@ -46,6 +49,18 @@ pub fn no_fault_of_a_saved_file()
     ensures { (bytes : List ℕ) (c : List Column) (p : List Pair) (e : FileRefusal) → IsSavedFile bytes c p → IsSavedFault bytes e → e ≡ FileRefusal.NoMemory }
 {}
 
+/// Of the same bytes no two faults can be said of a table file for the columns, but that memory ran out.
+pub fn one_fault_of_a_table_file()
+    ensures { (columns : List Column) (bytes : List ℕ) (a b : FileRefusal) → a ≢ FileRefusal.NoMemory → b ≢ FileRefusal.NoMemory
+        → IsTableFault columns bytes a → IsTableFault columns bytes b → a ≡ b }
+{}
+
+/// Of the same bytes no two faults can be said of a saved file, but that memory ran out.
+pub fn one_fault_of_a_saved_file()
+    ensures { (bytes : List ℕ) (a b : FileRefusal) → a ≢ FileRefusal.NoMemory → b ≢ FileRefusal.NoMemory
+        → IsSavedFault bytes a → IsSavedFault bytes b → a ≡ b }
+{}
+
 /// Any bytes have records, so what is promised of the records of a file is never promised of nothing.
 pub fn records_of_all_bytes()
     ensures { (bytes : List ℕ) → (records : List Record) × AreAll bytes records }
@@ -72,3 +87,27 @@ pub fn each_table_file_or_fault()
         → ((rows : List (List Value)) × IsTableFile columns bytes rows)
         ⊎ ((e : FileRefusal) × (e ≢ FileRefusal.NoMemory) × IsTableFault columns bytes e) }
 {}
+
+/// Any bytes are a saved file, or no saved file for one of the reasons that a refusal says.
+pub fn each_saved_file_or_fault()
+    ensures { (bytes : List ℕ)
+        → ((columns : List Column) × (pairs : List Pair) × IsSavedFile bytes columns pairs)
+        ⊎ ((e : FileRefusal) × (e ≢ FileRefusal.NoMemory) × IsSavedFault bytes e) }
+{}
+
+/// A saved file of version 2 is no table file for any columns whose names are words, and is refused with
+/// the fault of a header. The names of each schema are words (`column_names_are_words`).
+pub fn a_saved_file_is_no_table_file()
+    ensures { (bytes : List ℕ) (columns saved : List Column) (pairs : List Pair) (count : ℕ) → All (λ c. IsLowerWord c.name) columns
+        → IsVersionTwo bytes saved pairs count → IsTableFault columns bytes FileRefusal.Header }
+{}
+
+/// The names of a schema's columns are words in lower case. Called for its clause alone: it changes
+/// nothing and gives nothing back.
+pub fn column_names_are_words(schema: &Schema)
+    ensures { All (λ c. IsLowerWord c.name) schema.now }
+{
+    'columns: for i in 0..schema.len() {
+        schema.column(i).name.lower_word();
+    }
+}

@@ -22,11 +22,13 @@ mod table;
 mod write;
 
 pub use laws::{
-    a_cut_file_is_refused, a_mark_changes_nothing, each_table_file_or_fault,
-    no_fault_of_a_saved_file, no_fault_of_a_table_file, one_list_of_records, one_saved_file,
-    one_table_file, records_of_all_bytes, rows_of_a_saved_file_fit, rows_of_a_table_file_fit,
+    a_cut_file_is_refused, a_mark_changes_nothing, a_saved_file_is_no_table_file,
+    column_names_are_words, each_saved_file_or_fault, each_table_file_or_fault,
+    no_fault_of_a_saved_file, no_fault_of_a_table_file, one_fault_of_a_saved_file,
+    one_fault_of_a_table_file, one_list_of_records, one_saved_file, one_table_file,
+    records_of_all_bytes, rows_of_a_saved_file_fit, rows_of_a_table_file_fit,
 };
 pub use refusal::FileRefusal;
 pub use saved::{Saved, read_saved};
 pub use table::read_table;
-pub use write::write_saved;
+pub use write::{text_of, write_saved};

@@ -47,8 +47,8 @@ fn saved_records(alloc: Global, schema: &Schema, rel: &Rel<Row>) -> Result<Vec<u
     text_of(writer)
 }
 
-// What was written.
-fn text_of(writer: Writer<Vec<u8>>) -> Result<Vec<u8>, Error>
+/// What the writer has written. Refused only for want of memory.
+pub fn text_of(writer: Writer<Vec<u8>>) -> Result<Vec<u8>, Error>
     ensures { IfOk result (λ v. (text : List ℕ) → HasText writer text → v.items ≡ text) }
 {
     match writer.into_inner() {

@@ -1,5 +1,6 @@
 mod Asked
 mod Borrowed
+mod CommandChoice
 mod OneCommand
 mod Readings
 mod Taken

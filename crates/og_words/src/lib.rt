@@ -4,7 +4,8 @@
 //! specs/Grammar.antt), refuses them exactly where they are none, or runs out of memory. The words
 //! are first looked through for an empty one and for a `-` at the front, then given to clap, and
 //! then held against the grammar, which is narrower than what clap takes (specs/Shape.antt).
-//! `one_command` says that words are at most one command.
+//! `one_command` says that words are at most one command, and `command_or_none` that they are one or
+//! none.
 //!
 //! No tests here: the call is tested in og_file_samples.
 #![tactic(auto)]
@@ -17,5 +18,5 @@ mod read;
 mod shape;
 
 pub use command::{Command, WordsRefusal};
-pub use laws::one_command;
+pub use laws::{command_or_none, one_command};
 pub use read::read_words;

@@ -5,8 +5,8 @@ use Rattle.og_value.specs.declared.cell.CellRefusal.{CellRefusal}
 use Rattle.og_file.proofs.CellLemmas.{next_column, next_field, next_cell, cell_at, no_field}
 use Rattle.og_file.proofs.cells.cells_of.Goals as goal
 
-pub returns-in_default-clause-none : goal.returns-in_default-clause-none
-returns-in_default-clause-none c = λ _ row are. no_field c.args.schema.now (fields_of c.args.fields.now) row (length c.args.schema.now) c.columns.i are (search rules) (sym c.in_default.ensures.value)
+pub returns-in_default-get-clause-none : goal.returns-in_default-get-clause-none
+returns-in_default-get-clause-none c = λ _ row are. no_field c.args.schema.now (fields_of c.args.fields.now) row (length c.args.schema.now) c.columns.i are (search rules) (sym c.in_default-get.ensures.value)
 
 pub returns-in_err-value-clause-none : goal.returns-in_err-value-clause-none
 returns-in_err-value-clause-none c = λ same row are.
@@ -21,4 +21,4 @@ columns-preserved c =
     let columns = c.args.schema.now in
     let fields = fields_of c.args.fields.now in
     let cells = next_cell (take i columns) (take i fields) c.columns.values.items c.column.result.now c.in-Some.field.now c.in_ok-value.value c.columns.invariant c.in_ok-value.ensures.value in
-    rw (next_column columns i c.column.result.now c.column.ensures, next_field fields i c.in-Some.field.now (sym c.in-Some.ensures.value), c.in-Ok.ensures.items) cells
+    rw (next_column columns i c.column.result.now c.column.ensures, next_field fields i c.in-Some.field.now (sym c.in-Some.ensures.value), c.in-Ok-push.ensures.items) cells

@@ -1,10 +1,6 @@
 -- Each text is the text of a day, or of none.
-use Rattle.std.proofs.Common.{◌≡◌, ◌⊎◌, ◌<◌, ◌≤◌, ◌≤ℤ◌, ◌<ℤ◌, ◌∷◌, [], ◌∙◌, ℕ, ℤ, neg_ℤ, pos, List, Bool, true, false, Result, Ok, Err, codes, refl, sym, ap, subst, inl, inr, arith}
-use Rattle.std.specs.Bool.{Decides}
-use Rattle.std.specs.Str.{bytes_eq}
-use Rattle.std.proofs.lemmas.Int.{by_lt_z, ints}
-use Rattle.std.proofs.lemmas.Slice.Eq.{bytes_eq-Decides}
-use native.Mathlib.Decide.{dec_lt}
+use Rattle.std.proofs.Common.{◌≡◌, ◌∙◌, ℕ, ℤ, neg_ℤ, pos, List, Result, Ok, Err, codes, refl, sym, ap, subst, inl, inr}
+use Rattle.std.specs.Int.{IsInRange}
 use Rattle.jiff_core.specs.Calendar.{IsBetween, IsCivilDate, days_in_month}
 use Rattle.jiff_core.specs.Date.{epoch_day}
 use Rattle.jiff_core.specs.declared.civil.date.Date.{Date}
@@ -12,60 +8,8 @@ use Rattle.jiff_core.specs.declared.error.Error.{Error}
 use Rattle.jiff_fmt.specs.Text.{date_text}
 use Rattle.jiff_fmt.specs.Temporal.{DateParts, date_parts, parse_date}
 use Rattle.jiff_fmt.proofs.RoundTrip.{parse_date-date_text}
-use Rattle.std.specs.Int.{IsInRange}
-use Rattle.og_base.specs.Bytes.{Lacks, IsCutAt}
 use Rattle.og_base.specs.Calendar.{IsDayText, IsRefDayText, before_all, after_all}
-
--- it is so, or it is not
-abbrev pub Or : Type 0 → Type 0
-Or P = P ⊎ (P → ⊥)
-
-pub by_bool : {P : Type 0} (b : Bool) → Decides b P → Or P
-by_bool true is = inl (is.0 refl)
-by_bool false is = inr (λ p. cc (is.1 p))
-
-pub both : {P Q : Type 0} → Or P → Or Q → Or (P × Q)
-both (inl p) (inl q) = inl (p, q)
-both (inl p) (inr q) = inr (λ h. q h.1)
-both (inr p) q = inr (λ h. p h.0)
-
-pub three : {P Q R : Type 0} → Or P → Or Q → Or R → Or (P × Q × R)
-three (inl p) (inl q) (inl r) = inl (p, q, r)
-three (inl p) (inl q) (inr r) = inr (λ h. r h.2)
-three (inl p) (inr q) r = inr (λ h. q h.1)
-three (inr p) q r = inr (λ h. p h.0)
-
-pub same_text : (xs ys : List ℕ) → Or (xs ≡ ys)
-same_text xs ys = by_bool (bytes_eq xs ys) (bytes_eq-Decides xs ys)
-
-pub less : (n m : ℕ) → Or (n < m)
-less n m = elim (dec_lt n m) [
-  | yes h ↦ inl h
-  | no h ↦ inr h
-]
-
-pub number : (n m : ℕ) → Or (n ≡ m)
-number n m = elim (dec_lt n m) [
-  | yes h ↦ inr (λ e. omega (arith, h, e))
-  | no h ↦ elim (dec_lt m n) [
-    | yes k ↦ inr (λ e. omega (arith, k, e))
-    | no k ↦ inl (omega (arith, h, k))
-  ]
-]
-
-at_most : (n m : ℕ) → Or (n ≤ m)
-at_most n m = elim (dec_lt m n) [
-  | yes h ↦ inr (λ k. omega (arith, h, k))
-  | no h ↦ inl (omega (arith, h))
-]
-
-pub less_z : (a b : ℤ) → Or (a <ℤ b)
-less_z a b = by_lt_z {P = Or (a <ℤ b)} a b (λ h. inl h) (λ h. inr (λ k. omega (arith, ints, h, k)))
-
-pub at_most_z : (a b : ℤ) → Or (a ≤ℤ b)
-at_most_z a b = by_lt_z {P = Or (a ≤ℤ b)} b a (λ h. inr (λ k. omega (arith, ints, h, k))) (λ h. inl h)
-
--- ---- reference days
+use Rattle.og_base.proofs.Choices.{Or, at_most, at_most_z, both, same_text, three}
 
 in_range : (low high n : ℕ) → Or (IsInRange low high n)
 in_range low high n = both (at_most low n) (at_most n high)
@@ -130,14 +74,3 @@ a_day text = by (same_text text (codes "-infinity")) (same_text text (codes "inf
     by (inr x) (inl last) c = inl (after_all, inr (inl (last, refl)))
     by (inr x) (inr y) (inl ref) = inl (ref.0, inr (inr ref.1))
     by (inr x) (inr y) (inr z) = inr (λ h. none x y z h.0 h.1)
-
--- ---- bytes round a separator
-
-pub cut_or_lacks : (b : ℕ) (text : List ℕ) → ((low : List ℕ) × (high : List ℕ) × IsCutAt b text low high) ⊎ Lacks b text
-cut_or_lacks b [] = inr tt
-cut_or_lacks b (x ∷ xs) = by (number x b) (cut_or_lacks b xs)
-  where
-    by : Or (x ≡ b) → ((low : List ℕ) × (high : List ℕ) × IsCutAt b xs low high) ⊎ Lacks b xs → ((low : List ℕ) × (high : List ℕ) × IsCutAt b (x ∷ xs) low high) ⊎ Lacks b (x ∷ xs)
-    by (inl same) more = inl ([], xs, record { joined = ap (λ z. z ∷ xs) same; first = tt })
-    by (inr other) (inl cut) = inl (x ∷ cut.0, cut.1, record { joined = ap (λ l. x ∷ l) cut.2.joined; first = (other, cut.2.first) })
-    by (inr other) (inr lacks) = inr (other, lacks)
