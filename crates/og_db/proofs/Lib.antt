@@ -1,3 +1,4 @@
+pub mod EffectLemmas
 pub mod EntryLemmas
 pub mod FitLemmas
 pub mod SizeLemmas

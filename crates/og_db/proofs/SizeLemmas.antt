@@ -3,9 +3,7 @@ use Rattle.std.proofs.Common.{◌≡◌, ◌++◌, ◌≤◌, ◌+◌, ◌*◌, 
 use Rattle.std.specs.List.{AllByRecursion, IsDistinct}
 use Rattle.std.specs.Option.{option_map}
 use Rattle.std.specs.Str.{bytes_eq}
-use Rattle.std.proofs.lemmas.List.Sums.{fold-append}
 use Rattle.std.proofs.lemmas.Nat.{mul-le}
-use Rattle.og_base.specs.Calendar.{IsRefDay}
 use Rattle.og_value.specs.declared.term.SetOp.{SetOp}
 use Rattle.og_value.specs.declared.term.SetOp.TheVariants as op
 use Rattle.og_query.specs.Sizes.{Sizes, core_size, combined_size, query_size}
@@ -16,9 +14,9 @@ use Rattle.og_query.specs.declared.query.Rest.{Rest}
 use Rattle.og_query.specs.declared.typed.Typed.{Typed}
 use Rattle.og_query.specs.declared.typed.Typed.TheVariants as t
 use Rattle.og_db.specs.Held.{Held, described, found, known_of, rows_of, made_of, all_made_of, changed_at, without}
-use Rattle.og_db.specs.Database.{Relation, world_at}
-use Rattle.og_db.specs.Runs.{IsWithin, AreWithin, IsWorldOf, sizes_at, sizes_after}
-use Rattle.og_db.specs.Statements.{or_else, named_sizes, ordinary_statement, size_after}
+use Rattle.og_db.specs.Database.{Relation}
+use Rattle.og_db.specs.Runs.{IsWithin, AreWithin, sizes_at}
+use Rattle.og_db.specs.Statements.{or_else, named_sizes, name_sizes_after}
 use Rattle.og_db.proofs.WorldLemmas.{rows_found, all_made_of-push, all_made_of-without}
 
 -- names are within themselves
@@ -151,7 +149,7 @@ module _ (a b : Sizes) (more : (name : List ℕ) → a name ≤ b name) where
   query_more query = rests_more query.rest (core_size a query.first) (core_size b query.first) (core_more query.first)
 
 -- a statement leaves no more rows where there were no more
-pub within-after : (a b : List (Held ℕ)) → AreWithin a b → (stmt : Typed) → AreWithin (size_after a stmt) (size_after b stmt)
+pub within-after : (a b : List (Held ℕ)) → AreWithin a b → (stmt : Typed) → AreWithin (name_sizes_after a stmt) (name_sizes_after b stmt)
 within-after a b v (t.Create name columns) = within-push a b _ _ v (record { name = refl; what = refl; rows = omega arith })
 within-after a b v (t.Insert name tuples) = within-changed_at name (λ n. n + length tuples) (λ m n h. omega (arith, h)) a b v
 within-after a b v (t.Delete name cond) = v
@@ -176,12 +174,3 @@ within-added old h most v =
 -- the sizes of names without one
 pub within-dropped : (name : List ℕ) (old : List (Held Relation)) → AreWithin (sizes_at (without name old)) (without name (sizes_at old))
 within-dropped name old = subst (λ sizes. AreWithin sizes (without name (sizes_at old))) (sym (all_made_of-without length name old)) (within-refl (without name (sizes_at old)))
-
--- a database that is the world of statements, changed as one more says, is the world of these and that one
-pub one_more : (old new : List (Held Relation)) (stmt : Typed) → ((d : ℤ) → IsRefDay d → world_at d new ≡ ordinary_statement d (world_at d old) stmt)
-    → AreWithin (sizes_at new) (size_after (sizes_at old) stmt) → (statements : List Typed) → IsWorldOf old statements → IsWorldOf new (statements ++ stmt ∷ [])
-one_more old new stmt law size statements is = record {
-  worlds = λ d day. law d day ∙ ap (λ world. ordinary_statement d world stmt) (is.worlds d day) ∙ sym (fold-append (ordinary_statement d) [] statements (stmt ∷ []));
-  sizes = subst (AreWithin (sizes_at new)) (sym (fold-append size_after [] statements (stmt ∷ [])))
-      (within-trans (sizes_at new) (size_after (sizes_at old) stmt) (size_after (sizes_after statements) stmt) size (within-after (sizes_at old) (sizes_after statements) is.sizes stmt));
-}

@@ -10,7 +10,7 @@ use Rattle.og_value.specs.declared.value.Value.{Value}
 use Rattle.og_query.specs.Fits.{IsFitRow}
 use Rattle.og_rel.specs.Relations.{relation_at}
 use Rattle.og_db.specs.Held.{Held, rows_of, known_of, all_made_of}
-use Rattle.og_db.specs.Statements.{World}
+use Rattle.og_db.specs.Statements.{Names}
 
 -- a relation: rows with the days on which they are present
 abbrev pub Relation : Type 0
@@ -20,9 +20,9 @@ Relation = List (List Value × List Range)
 abbrev pub HaveKinds : List Column → Relation → Type 0
 HaveKinds columns rel = All (λ p. IsFitRow columns p.0) rel
 
--- the world of one day that a database stands for
-abbrev pub world_at : ℤ → List (Held Relation) → World
-world_at d db = all_made_of (λ rel. relation_at row_order row_at rel d) db
+-- the names on one day that named relations stand for
+abbrev pub names_at : ℤ → List (Held Relation) → Names
+names_at d db = all_made_of (λ rel. relation_at row_order row_at rel d) db
 
 -- a table of these columns is held under the name
 abbrev pub IsTableOf : List Column → List (Held Relation) → List ℕ → Type 0

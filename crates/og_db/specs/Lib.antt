@@ -1,4 +1,5 @@
 pub mod Database
+pub mod Effects
 pub mod Entries
 pub mod Fits
 pub mod Held

@@ -1,11 +1,10 @@
--- What statements make of a database: the names that are known after them, how many rows there are at most, and the world of each day.
-use Rattle.std.specs.Prelude.{◌≡◌, ◌≤◌, ⊤, ℕ, ℤ, List, [], ◌∷◌, length, fold}
+-- What statements make of a database and of the files that are saved: the names that are known after them, and the world of each day.
+use Rattle.std.specs.Prelude.{◌≡◌, ◌≤◌, ⊤, ℕ, ℤ, List, [], ◌∷◌, length}
 use Rattle.og_base.specs.Calendar.{IsRefDay}
 use Rattle.og_query.specs.Fits.{Known}
-use Rattle.og_query.specs.declared.typed.Typed.{Typed}
 use Rattle.og_db.specs.Held.{Held, described, known_of, all_made_of}
-use Rattle.og_db.specs.Statements.{size_after, world_of_day}
-use Rattle.og_db.specs.Database.{Relation, world_at}
+use Rattle.og_db.specs.Database.{Relation, names_at}
+use Rattle.og_db.specs.Effects.{Effect, sizes_after, world_of_day}
 
 -- how many rows each name has
 abbrev pub sizes_at : List (Held Relation) → List (Held ℕ)
@@ -23,15 +22,13 @@ AreWithin [] [] = ⊤
 AreWithin (held ∷ helds) (most ∷ mosts) = IsWithin held most × AreWithin helds mosts
 AreWithin _ _ = ⊥
 
--- size: how many rows each name has at most after statements
-abbrev pub sizes_after : List Typed → List (Held ℕ)
-sizes_after statements = fold size_after [] statements
-
 -- what each name is after statements, with its columns; these are the same on all days
-abbrev pub known_after : List Typed → Known
-known_after statements = known_of (sizes_after statements)
+abbrev pub known_after : List Effect → Known
+known_after effects = known_of (sizes_after effects).names
 
--- on each day the database is the world of that day after the statements, and no name has more rows than its size
-pub record IsWorldOf (db : List (Held Relation)) (statements : List Typed) : Type 0 where
-  pub worlds : (d : ℤ) → IsRefDay d → world_at d db ≡ world_of_day d statements
-  pub sizes : AreWithin (sizes_at db) (sizes_after statements)
+-- on each day the database and the files that were saved are the world of that day after the statements, and none has more rows than its size
+pub record IsWorldOf (db files : List (Held Relation)) (effects : List Effect) : Type 0 where
+  pub names : (d : ℤ) → IsRefDay d → names_at d db ≡ (world_of_day d effects).names
+  pub saved : (d : ℤ) → IsRefDay d → names_at d files ≡ (world_of_day d effects).files
+  pub sizes : AreWithin (sizes_at db) (sizes_after effects).names
+  pub saved_sizes : AreWithin (sizes_at files) (sizes_after effects).files

@@ -16,8 +16,8 @@ ghost use Rattle.og_query.specs.declared.typed.Typed.TheVariants as t;
 ghost use Rattle.og_db.specs.Fits.{KeepsKinds};
 ghost use Rattle.og_db.specs.Held.{Held, known_of, rows_of, changed_at, without};
 ghost use Rattle.og_db.specs.Runs.{AreWithin, sizes_at};
-ghost use Rattle.og_db.specs.Statements.{named_rows, named_sizes, ordinary_statement, size_after};
-ghost use Rattle.og_db.specs.Database.{Relation, HaveKinds, IsTableOf, AreKept, world_at};
+ghost use Rattle.og_db.specs.Statements.{named_rows, named_sizes, names_after, name_sizes_after};
+ghost use Rattle.og_db.specs.Database.{Relation, HaveKinds, IsTableOf, AreKept, names_at};
 
 use crate::assignments::Assignments;
 use crate::holding::Holding;
@@ -69,8 +69,8 @@ impl Db {
         requires { IsNew (known_of self.old) name }
         ensures created { OnOk result (self.new ≡ self.old ++ record { name = name; what = what.Table; columns = schema; rows = [] } ∷ []) }
         ensures law { OnOk result ((d : ℤ) → IsRefDay d →
-            world_at d self.new ≡ ordinary_statement d (world_at d self.old) (t.Create name schema)) }
-        ensures size { OnOk result (AreWithin (sizes_at self.new) (size_after (sizes_at self.old) (t.Create name schema))) }
+            names_at d self.new ≡ names_after d (names_at d self.old) (t.Create name schema)) }
+        ensures size { OnOk result (AreWithin (sizes_at self.new) (name_sizes_after (sizes_at self.old) (t.Create name schema))) }
         ensures refused { OnErr result (self.new ≡ self.old) }
     {
         let rel = Rel::new(*self.names.allocator());
@@ -84,10 +84,10 @@ impl Db {
         requires fits { HaveKinds schema rel }
         ensures kept { OnOk result (self.new ≡ self.old ++ record { name = name; what = what.Kept; columns = schema; rows = rel } ∷ []) }
         ensures law { OnOk result ((query : Query) → schema ≡ query.first.schema →
-            ((d : ℤ) → IsRefDay d → relation_at row_order row_at rel d ≡ ordinary_query d (named_rows (world_at d self.old)) query) →
-            (d : ℤ) → IsRefDay d → world_at d self.new ≡ ordinary_statement d (world_at d self.old) (t.Keep name query)) }
+            ((d : ℤ) → IsRefDay d → relation_at row_order row_at rel d ≡ ordinary_query d (named_rows (names_at d self.old)) query) →
+            (d : ℤ) → IsRefDay d → names_at d self.new ≡ names_after d (names_at d self.old) (t.Keep name query)) }
         ensures size { OnOk result ((query : Query) → schema ≡ query.first.schema → length rel ≤ query_size (named_sizes (sizes_at self.old)) query →
-            AreWithin (sizes_at self.new) (size_after (sizes_at self.old) (t.Keep name query))) }
+            AreWithin (sizes_at self.new) (name_sizes_after (sizes_at self.old) (t.Keep name query))) }
         ensures refused { OnErr result (self.new ≡ self.old) }
     {
         self.enter(name, What::Kept, schema, rel)
@@ -137,10 +137,10 @@ impl Db {
     pub fn insert(&mut self, name: &Name, rows: Vec<Row>) -> Result<(), NoMemory>
         requires table { (columns : List Column) × IsTableOf columns self.old name.now × All (IsFitRow columns) rows.items }
         ensures law { OnOk result ((d : ℤ) → IsRefDay d →
-            world_at d self.new ≡ ordinary_statement d (world_at d self.old) (t.Insert name.now rows.items)) }
+            names_at d self.new ≡ names_after d (names_at d self.old) (t.Insert name.now rows.items)) }
         ensures known { OnOk result ((other : List ℕ) → known_of self.new other ≡ known_of self.old other) }
         ensures others { OnOk result (AreKept name.now self.old self.new) }
-        ensures size { OnOk result (AreWithin (sizes_at self.new) (size_after (sizes_at self.old) (t.Insert name.now rows.items))) }
+        ensures size { OnOk result (AreWithin (sizes_at self.new) (name_sizes_after (sizes_at self.old) (t.Insert name.now rows.items))) }
         ensures refused { OnErr result (self.new ≡ self.old) }
     {
         let more = on_all_days(*self.names.allocator(), rows)?;
@@ -152,10 +152,10 @@ impl Db {
     pub fn delete(&mut self, name: &Name, cond: &Cond) -> Result<(), NoMemory>
         requires table { (columns : List Column) × IsTableOf columns self.old name.now }
         ensures law { OnOk result ((d : ℤ) → IsRefDay d →
-            world_at d self.new ≡ ordinary_statement d (world_at d self.old) (t.Delete name.now cond.now)) }
+            names_at d self.new ≡ names_after d (names_at d self.old) (t.Delete name.now cond.now)) }
         ensures known { OnOk result ((other : List ℕ) → known_of self.new other ≡ known_of self.old other) }
         ensures others { OnOk result (AreKept name.now self.old self.new) }
-        ensures size { OnOk result (AreWithin (sizes_at self.new) (size_after (sizes_at self.old) (t.Delete name.now cond.now))) }
+        ensures size { OnOk result (AreWithin (sizes_at self.new) (name_sizes_after (sizes_at self.old) (t.Delete name.now cond.now))) }
         ensures refused { OnErr result (self.new ≡ self.old) }
     {
         let left = Restrict {
@@ -169,10 +169,10 @@ impl Db {
     pub fn update(&mut self, name: &Name, sets: &[Assign], cond: &Cond) -> Result<(), NoMemory>
         requires table { (columns : List Column) × IsTableOf columns self.old name.now × All (IsFitAssign columns) sets.now }
         ensures law { OnOk result ((d : ℤ) → IsRefDay d →
-            world_at d self.new ≡ ordinary_statement d (world_at d self.old) (t.Update name.now sets.now cond.now)) }
+            names_at d self.new ≡ names_after d (names_at d self.old) (t.Update name.now sets.now cond.now)) }
         ensures known { OnOk result ((other : List ℕ) → known_of self.new other ≡ known_of self.old other) }
         ensures others { OnOk result (AreKept name.now self.old self.new) }
-        ensures size { OnOk result (AreWithin (sizes_at self.new) (size_after (sizes_at self.old) (t.Update name.now sets.now cond.now))) }
+        ensures size { OnOk result (AreWithin (sizes_at self.new) (name_sizes_after (sizes_at self.old) (t.Update name.now sets.now cond.now))) }
         ensures refused { OnErr result (self.new ≡ self.old) }
     {
         let changed = Split {
@@ -186,7 +186,7 @@ impl Db {
     fn change<O: UnaryOp<Row>>(&mut self, name: &Name, op: &O) -> Result<(), NoMemory>
         requires table { (columns : List Column) × IsTableOf columns self.old name.now × KeepsKinds columns (O.plain op.now) }
         ensures law { OnOk result ((d : ℤ) → IsRefDay d →
-            world_at d self.new ≡ changed_at name.now (O.plain op.now d) (world_at d self.old)) }
+            names_at d self.new ≡ changed_at name.now (O.plain op.now d) (names_at d self.old)) }
         ensures known { OnOk result ((other : List ℕ) → known_of self.new other ≡ known_of self.old other) }
         ensures others { OnOk result (AreKept name.now self.old self.new) }
         ensures size { OnOk result (AreWithin (sizes_at self.new) (changed_at name.now (O.most op.now) (sizes_at self.old))) }
@@ -232,8 +232,8 @@ impl Db {
     /// Takes a name out. The others keep their order.
     pub fn drop_name(&mut self, name: &Name)
         ensures dropped { self.new ≡ without name.now self.old }
-        ensures law { (d : ℤ) → IsRefDay d → world_at d self.new ≡ ordinary_statement d (world_at d self.old) (t.Drop name.now) }
-        ensures size { AreWithin (sizes_at self.new) (size_after (sizes_at self.old) (t.Drop name.now)) }
+        ensures law { (d : ℤ) → IsRefDay d → names_at d self.new ≡ names_after d (names_at d self.old) (t.Drop name.now) }
+        ensures size { AreWithin (sizes_at self.new) (name_sizes_after (sizes_at self.old) (t.Drop name.now)) }
     {
         let _ = self.names.len();
         self.names.shift_remove(name);

@@ -6,36 +6,55 @@ ghost use Rattle.og_base.specs.Calendar.{IsRefDay};
 ghost use Rattle.og_rel.specs.Relations.{HasDays, relation_at};
 ghost use Rattle.og_value.specs.Order.{row_order};
 ghost use Rattle.og_value.specs.Values.{row_at};
+ghost use Rattle.og_value.specs.declared.kind.What.TheVariants as what;
 ghost use Rattle.og_value.specs.declared.schema.Column.{Column};
+ghost use Rattle.og_value.specs.declared.value.Value.{Value};
 ghost use Rattle.og_query.specs.declared.typed.Typed.{Typed};
-ghost use Rattle.og_db.specs.Database.{Relation, HaveKinds, world_at};
+ghost use Rattle.og_query.specs.declared.typed.Typed.TheVariants as t;
+ghost use Rattle.og_db.specs.Database.{Relation, HaveKinds, names_at};
 ghost use Rattle.og_db.specs.Fits.{IsFitFixed};
 ghost use Rattle.og_db.specs.Held.{Held, found, known_of, made_of};
+ghost use Rattle.og_db.specs.Effects.{Effect, on_names, saved, reopened, opened, imported, with_file, with_name};
 ghost use Rattle.og_db.specs.Runs.{AreWithin, IsWorldOf, known_after, sizes_at};
-ghost use Rattle.og_db.specs.Statements.{ordinary_statement, size_after};
+ghost use Rattle.og_db.specs.Statements.{names_after, name_sizes_after};
 
-/// A database without names is the world of each day before any statement.
+/// A database without names, and no file that was saved, are the world of each day before any statement.
 pub fn no_statements()
-    ensures { IsWorldOf [] [] }
+    ensures { IsWorldOf [] [] [] }
 {}
 
 /// A database that is the world of each day after statements knows the names that they leave.
 pub fn known_names()
-    ensures { (db : List (Held Relation)) (statements : List Typed) → IsWorldOf db statements → known_of db ≡ known_after statements }
+    ensures { (db files : List (Held Relation)) (effects : List Effect) → IsWorldOf db files effects → known_of db ≡ known_after effects }
 {}
 
-/// A database that was the world of each day after statements, and was changed as one more says, is the
-/// world of each day after these and that one. Names are within their own sizes.
+/// What was the world of each day after statements, where the database was changed as one more says that acts
+/// on names alone, is the world of each day after these and that one. Names are within their own sizes.
 pub fn one_statement_more()
-    ensures done { (old new : List (Held Relation)) (stmt : Typed) → ((d : ℤ) → IsRefDay d → world_at d new ≡ ordinary_statement d (world_at d old) stmt) →
-        AreWithin (sizes_at new) (size_after (sizes_at old) stmt) → (statements : List Typed) → IsWorldOf old statements → IsWorldOf new (statements ++ stmt ∷ []) }
+    ensures done { (old new files : List (Held Relation)) (stmt : Typed) → ((d : ℤ) → IsRefDay d → names_at d new ≡ names_after d (names_at d old) stmt) →
+        AreWithin (sizes_at new) (name_sizes_after (sizes_at old) stmt) → (effects : List Effect) → IsWorldOf old files effects → IsWorldOf new files (effects ++ on_names stmt ∷ []) }
     ensures same { (sizes : List (Held ℕ)) → AreWithin sizes sizes }
 {}
 
-/// What is found under a name in the world of a day, and in the sizes of a database, is made of what the
-/// database holds under it.
+/// The same of one statement more that acts on a file: a file that now holds what a name holds, a name that now
+/// holds what a saved file or another one holds, and a table with the rows of a file.
+pub fn one_file_more()
+    ensures saved { (db files : List (Held Relation)) (name file : List ℕ) (effects : List Effect) → IsWorldOf db files effects →
+        IsWorldOf db (with_file file (found db name) files) (effects ++ saved name file ∷ []) }
+    ensures reopened { (db files : List (Held Relation)) (name file : List ℕ) (effects : List Effect) → IsWorldOf db files effects →
+        IsWorldOf (with_name name (found files file) db) files (effects ++ reopened name file ∷ []) }
+    ensures opened { (db files : List (Held Relation)) (name : List ℕ) (columns : List Column) (rel : Relation) (effects : List Effect) → IsWorldOf db files effects →
+        IsWorldOf (db ++ record { name = name; what = what.Kept; columns = columns; rows = rel } ∷ []) files (effects ++ opened name columns rel ∷ []) }
+    ensures imported { (old new files : List (Held Relation)) (name : List ℕ) (rows : List (List Value)) →
+        ((d : ℤ) → IsRefDay d → names_at d new ≡ names_after d (names_at d old) (t.Insert name rows)) →
+        AreWithin (sizes_at new) (name_sizes_after (sizes_at old) (t.Insert name rows)) → (effects : List Effect) → IsWorldOf old files effects →
+        IsWorldOf new files (effects ++ imported name rows ∷ []) }
+{}
+
+/// What is found under a name on a day, and in the sizes of a database, is made of what the database holds
+/// under it.
 pub fn found_names()
-    ensures rows { (d : ℤ) (db : List (Held Relation)) (name : List ℕ) → found (world_at d db) name ≡ option_map (made_of (λ rel. relation_at row_order row_at rel d)) (found db name) }
+    ensures rows { (d : ℤ) (db : List (Held Relation)) (name : List ℕ) → found (names_at d db) name ≡ option_map (made_of (λ rel. relation_at row_order row_at rel d)) (found db name) }
     ensures sizes { (db : List (Held Relation)) (name : List ℕ) → found (sizes_at db) name ≡ option_map (made_of length) (found db name) }
 {}
 

@@ -31,7 +31,7 @@ use Rattle.og_query.specs.declared.typed.Typed.TheVariants as t
 use Rattle.og_query.proofs.KindLemmas.{value_has_its_kind}
 use Rattle.og_plan.specs.Premises.{FitRows, HaveFitRows, AllHaveFitRows}
 use Rattle.og_exec.specs.Tables.{Relations, rows_at, rows_or_none, size_or_none, sizes_of}
-use Rattle.og_db.specs.Database.{Relation, HaveKinds, world_at}
+use Rattle.og_db.specs.Database.{Relation, HaveKinds, names_at}
 use Rattle.og_db.specs.Fits.{IsFitFixed}
 use Rattle.og_db.specs.Held.{Held, found, made_of, rows_of}
 use Rattle.og_db.specs.Runs.{sizes_at}
@@ -39,8 +39,8 @@ use Rattle.og_db.specs.Statements.{or_else, named_rows, named_sizes}
 use Rattle.og_session.specs.Answers.{AreHeld}
 
 -- the rows of a day of each name are those of the world of that day
-pub rows_at-world : ((d : ℤ) (db : List (Held Relation)) (name : List ℕ) → found (world_at d db) name ≡ option_map (made_of (λ rel. relation_at row_order row_at rel d)) (found db name))
-    → (d : ℤ) (db : List (Held Relation)) → rows_at (rows_of db) d ≡ named_rows (world_at d db)
+pub rows_at-world : ((d : ℤ) (db : List (Held Relation)) (name : List ℕ) → found (names_at d db) name ≡ option_map (made_of (λ rel. relation_at row_order row_at rel d)) (found db name))
+    → (d : ℤ) (db : List (Held Relation)) → rows_at (rows_of db) d ≡ named_rows (names_at d db)
 rows_at-world found_at d db = λ i name. (same (found db name) ∙ ap (λ o. or_else [] (option_map (λ h. h.rows) o)) (sym (found_at d db name))) i
   where
     same : (o : Option (Held Relation)) → rows_or_none (option_map (λ h. h.rows) o) d ≡ or_else [] (option_map (λ h. h.rows) (option_map (made_of (λ rel. relation_at row_order row_at rel d)) o))

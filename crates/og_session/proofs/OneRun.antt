@@ -1,124 +1,93 @@
--- The words and the bytes of a source have one run.
-use Rattle.std.proofs.Common.{◌≡◌, ◌⊎◌, ◌∷◌, inl, inr, ⊎_elim, ℕ, Bool, true, false, List, [], Option, Some, None, codes, get_or, length, refl, sym, ap, ◌∙◌, subst, true≢false, arith}
-use Rattle.std.specs.Cmp.Lexicographic.{same_text}
-use Rattle.std.specs.Str.{bytes_eq}
-use Rattle.std.proofs.lemmas.Bool.{cases_lt}
-use Rattle.og_lex.specs.Faults as lexer
-use Rattle.og_lex.specs.Grammar.{IsLexed}
-use Rattle.og_lex.specs.declared.refusal.LexRefusal.{LexRefusal}
-use Rattle.og_lex.specs.declared.token.Token.{Token}
-use Rattle.og_parse.specs.Script as parser
-use Rattle.og_parse.specs.declared.refusal.ParseRefusal.{ParseRefusal}
-use Rattle.og_parse.specs.declared.refusal.ParseRefusal.TheVariants as parses
+-- Words, the bytes of a source and files have one run.
+use Rattle.std.proofs.Common.{◌≡◌, ◌⊎◌, inl, inr, [], ℕ, List, refl, sym, ap, ◌∙◌, subst}
 use Rattle.og_syntax.specs.declared.tree.Stmt.{Stmt}
-use Rattle.og_session.specs.Lines.{words_line, too_long_line, lex_line, parse_line}
-use Rattle.og_session.specs.Runs.{Run, IsDefinedRun, IsRun, IsCommand, no_command, too_long, no_tokens, no_tree, not_built, is_run, IsTreeFault, AreTrees, refused, run_from, first_unbuilt, max_source}
+use Rattle.og_words.specs.Grammar.{IsCommand}
+use Rattle.og_words.specs.declared.command.Command.{Command}
+use Rattle.og_words.specs.declared.command.Command.TheVariants as commands
+use Rattle.og_io.specs.Folders.{Folder}
+use Rattle.og_session.specs.Commands.{at_script, load_script}
+use Rattle.og_session.specs.Contents.{AreContents, Contents}
+use Rattle.og_session.specs.Lines.{words_line}
+use Rattle.og_session.specs.Runs.{Run, IsDefinedRun, IsRun, IsNoCommand, IsScriptFault, IsScriptOf, no_command, no_script, is_run, refused, run_from}
+use Rattle.og_session.proofs.Scripts.{IsScriptOrNot, Laws, one_script, no_fault, one_fault_line}
 
--- the laws of tokens and of trees: there is one or a fault of them, each is one, faults too, and where there is one there is no fault
-pub record Laws : Type 0 where
-  pub some_list : (script : List ℕ) → ((tokens : List Token) × IsLexed script tokens) ⊎ ((fault : LexRefusal) × lexer.IsFirstFault script fault)
-  pub some_tree : (script : List ℕ) (tokens : List Token) → ((stmts : List Stmt) × parser.IsScript script tokens stmts) ⊎ ((fault : ParseRefusal) × parser.IsFirstFault script tokens fault)
-  pub one_list : (script : List ℕ) (tokens others : List Token) → IsLexed script tokens → IsLexed script others → tokens ≡ others
-  pub no_tokens : (script : List ℕ) (tokens : List Token) (fault : LexRefusal) → IsLexed script tokens → ¬ lexer.IsFirstFault script fault
-  pub one_lex_fault : (script : List ℕ) (fault other : LexRefusal) → lexer.IsFirstFault script fault → lexer.IsFirstFault script other → fault ≡ other
-  pub one_tree : (script : List ℕ) (tokens : List Token) (stmts others : List Stmt) → parser.IsScript script tokens stmts → parser.IsScript script tokens others → stmts ≡ others
-  pub no_tree : (script : List ℕ) (tokens : List Token) (stmts : List Stmt) (fault : ParseRefusal) → parser.IsScript script tokens stmts → ¬ parser.IsFirstFault script tokens fault
-  pub one_parse_fault : (script : List ℕ) (tokens : List Token) (fault other : ParseRefusal) → parser.IsFirstFault script tokens fault → parser.IsFirstFault script tokens other → fault ≡ other
+-- words are one command at most
+abbrev pub IsOneCommand : Type 0
+IsOneCommand = (words : List (List ℕ)) (a b : Command) → IsCommand words a → IsCommand words b → a ≡ b
 
--- the words are the command run, or they are not
-run_or_not : (words : List (List ℕ)) → IsRun words ⊎ (¬ IsRun words)
-run_or_not [] = inr (λ e. cc e)
-run_or_not (word ∷ []) = at (bytes_eq word (codes "run")) refl
+module _ (laws : Laws) (one_command : IsOneCommand) where
+  -- a command runs one list of statements at most
+  one_script_of : (command : Command) (source : List ℕ) (xs ys : List Stmt) → IsScriptOf command source xs → IsScriptOf command source ys → xs ≡ ys
+  one_script_of (commands.Run workers) source xs ys x y = one_script laws source xs ys x y
+  one_script_of (commands.At file day) source xs ys x y = x ∙ sym y
+  one_script_of (commands.Load rows workers) source xs ys x y = x ∙ sym y
+
+  -- the same of one command that is said twice
+  one_script_of_words : (words : List (List ℕ)) (source : List ℕ) (a b : Command) (xs ys : List Stmt) → IsCommand words a → IsCommand words b → IsScriptOf a source xs → IsScriptOf b source ys → xs ≡ ys
+  one_script_of_words words source a b xs ys is other x y = one_script_of a source xs ys x (subst (λ c. IsScriptOf c source ys) (one_command words b a other is) y)
+
+  -- the command run whose source has a fault runs no statements
+  faulty : {A : Type 0} (words : List (List ℕ)) (source line : List ℕ) (command : Command) (stmts : List Stmt) → IsRun words → IsScriptFault source line → IsCommand words command → IsScriptOf command source stmts → A
+  faulty words source line command stmts (workers, other) fault is script =
+      absurd (no_fault laws source line stmts (subst (λ c. IsScriptOf c source stmts) (one_command words command (commands.Run workers) is other) script) fault)
+
+  -- the run of words that are no command
+  pub run_of_no_command : (words : List (List ℕ)) (source : List ℕ) (start : Folder) (run : Run) → IsNoCommand words → IsDefinedRun words source start run → run ≡ refused words_line 2
+  run_of_no_command words source start run none (no_command other e) = e
+  run_of_no_command words source start run none (no_script (workers, is) line fault e) = absurd (none (commands.Run workers) is)
+  run_of_no_command words source start run none (is_run command is stmts script contents are e) = absurd (none command is)
+
+  -- the run of the command run, of a source with a fault
+  pub run_of_no_script : (words : List (List ℕ)) (source line : List ℕ) (start : Folder) (run : Run) → IsRun words → IsScriptFault source line → IsDefinedRun words source start run → run ≡ refused line 3
+  run_of_no_script words source line start run (workers, is) fault (no_command none e) = absurd (none (commands.Run workers) is)
+  run_of_no_script words source line start run is fault (no_script other second last e) = e ∙ ap (λ l. refused l 3) (one_fault_line laws source second line last fault)
+  run_of_no_script words source line start run is fault (is_run command other stmts script contents are e) = faulty words source line command stmts is fault other script
+
+  -- the run of a command and its statements
+  pub run_of_script : (words : List (List ℕ)) (source : List ℕ) (start : Folder) (run : Run) (command : Command) (stmts : List Stmt) → IsCommand words command → IsScriptOf command source stmts → IsDefinedRun words source start run
+      → (contents : Contents) × AreContents start contents × (run ≡ run_from contents 1 [] stmts)
+  run_of_script words source start run command stmts is script (no_command none e) = absurd (none command is)
+  run_of_script words source start run command stmts is script (no_script other line fault e) = faulty words source line command stmts other fault is script
+  run_of_script words source start run command stmts is script (is_run second other others last contents are e) =
+      (contents, are, e ∙ ap (run_from contents 1 []) (one_script_of_words words source second command others stmts other is last script))
+
+  module _ (one_content : (start : Folder) (a b : Contents) → AreContents start a → AreContents start b → a ≡ b) where
+    -- words, a source and files have one run at most
+    pub one_run : (words : List (List ℕ)) (source : List ℕ) (start : Folder) (first second : Run) → IsDefinedRun words source start first → IsDefinedRun words source start second → first ≡ second
+    one_run words source start first second (no_command none e) defined = e ∙ sym (run_of_no_command words source start second none defined)
+    one_run words source start first second (no_script is line fault e) defined = e ∙ sym (run_of_no_script words source line start second is fault defined)
+    one_run words source start first second (is_run command is stmts script contents are e) defined =
+        let other = run_of_script words source start second command stmts is script defined in
+        e ∙ ap (λ c. run_from c 1 [] stmts) (one_content start contents other.0 are other.1) ∙ sym other.2
+
+-- a command has statements, or its source has a fault
+abbrev HasScriptOrNot : List (List ℕ) → List ℕ → Command → Type 0
+HasScriptOrNot words source command = ((stmts : List Stmt) × IsScriptOf command source stmts) ⊎ (IsRun words × (line : List ℕ) × IsScriptFault source line)
+
+module _
+    (command_or_none : (words : List (List ℕ)) → ((command : Command) × IsCommand words command) ⊎ IsNoCommand words)
+    (script_or_fault : (source : List ℕ) → IsScriptOrNot source)
+    (some_content : (start : Folder) → (contents : Contents) × AreContents start contents)
   where
-    at : (b : Bool) → bytes_eq word (codes "run") ≡ b → IsRun (word ∷ []) ⊎ (¬ IsRun (word ∷ []))
-    at true is = inl (ap (λ w. w ∷ []) (same_text word (codes "run") (sym is)))
-    at false is = inr (λ e. true≢false (sym (ap (λ words. bytes_eq (get_or words 0 []) (codes "run")) e) ∙ is))
-run_or_not (word ∷ other ∷ words) = inr (λ e. cc e)
+    -- each command is one of these two
+    script_of : (words : List (List ℕ)) (source : List ℕ) (command : Command) → IsCommand words command → HasScriptOrNot words source command
+    script_of words source (commands.Run workers) is = by (script_or_fault source)
+      where
+        by : IsScriptOrNot source → HasScriptOrNot words source (commands.Run workers)
+        by (inl script) = inl script
+        by (inr (line, fault)) = inr ((workers, is), line, fault)
+    script_of words source (commands.At file day) is = inl (at_script file day, refl)
+    script_of words source (commands.Load rows workers) is = inl (load_script rows, refl)
 
-module _ (laws : Laws) where
-  -- the words and the bytes of a source have a run
-  pub some_run : (words : List (List ℕ)) (source : List ℕ) → (run : Run) × IsDefinedRun words source run
-  some_run words source = ⊎_elim (λ is. ⊎_elim (λ long. (refused too_long_line 3, too_long is long refl)) (λ short. of_tokens (is, short)) (cases_lt max_source (length source))) (λ not. (refused words_line 2, no_command not refl)) (run_or_not words)
-    where
-      of_stmts : IsCommand words source → (stmts : List Stmt) → AreTrees source stmts → (o : Option ℕ) → first_unbuilt 1 stmts ≡ o → (run : Run) × IsDefinedRun words source run
-      of_stmts command stmts trees None built = (run_from 1 [] stmts, is_run command stmts trees built refl)
-      of_stmts command stmts trees (Some n) unbuilt = (refused (parse_line (parses.Syntax n)) 3, not_built command stmts trees n unbuilt refl)
+    -- any words, any source and any files have a run
+    pub some_run : (words : List (List ℕ)) (source : List ℕ) (start : Folder) → (run : Run) × IsDefinedRun words source start run
+    some_run words source start = by (command_or_none words)
+      where
+        of_command : (command : Command) → IsCommand words command → HasScriptOrNot words source command → (run : Run) × IsDefinedRun words source start run
+        of_command command is (inl (stmts, script)) =
+            let held = some_content start in (run_from held.0 1 [] stmts, is_run command is stmts script held.0 held.1 refl)
+        of_command command is (inr (run, line, fault)) = (refused line 3, no_script run line fault refl)
 
-      of_trees : IsCommand words source → (tokens : List Token) → IsLexed source tokens → (run : Run) × IsDefinedRun words source run
-      of_trees command tokens lexed =
-          ⊎_elim (λ tree. of_stmts command tree.0 (tokens, lexed, tree.1) (first_unbuilt 1 tree.0) refl)
-          (λ fault. (refused (parse_line fault.0) 3, no_tree command fault.0 (tokens, lexed, fault.1) refl)) (laws.some_tree source tokens)
-
-      of_tokens : IsCommand words source → (run : Run) × IsDefinedRun words source run
-      of_tokens command =
-          ⊎_elim (λ list. of_trees command list.0 list.1) (λ fault. (refused (lex_line fault.0) 3, no_tokens command fault.0 fault.1 refl)) (laws.some_list source)
-
-  -- a source has one list of trees at most
-  one_trees : (source : List ℕ) (xs ys : List Stmt) → AreTrees source xs → AreTrees source ys → xs ≡ ys
-  one_trees source xs ys (ts, lexed, tree) (us, other, last) =
-      laws.one_tree source ts xs ys tree (subst (λ l. parser.IsScript source l ys) (laws.one_list source us ts other lexed) last)
-
-  -- the trees have one first fault at most
-  one_tree_fault : (source : List ℕ) (f g : ParseRefusal) → IsTreeFault source f → IsTreeFault source g → f ≡ g
-  one_tree_fault source f g (ts, lexed, fault) (us, other, last) =
-      laws.one_parse_fault source ts f g fault (subst (λ l. parser.IsFirstFault source l g) (laws.one_list source us ts other lexed) last)
-
-  -- a source with trees has no fault of them
-  no_tree_fault : {A : Type 0} (source : List ℕ) (xs : List Stmt) (f : ParseRefusal) → AreTrees source xs → IsTreeFault source f → A
-  no_tree_fault source xs f (ts, lexed, tree) (us, other, fault) =
-      absurd (laws.no_tree source ts xs f tree (subst (λ l. parser.IsFirstFault source l f) (laws.one_list source us ts other lexed) fault))
-
-  -- the trees have one first statement that does not run at most
-  one_unbuilt : (source : List ℕ) (xs ys : List Stmt) (m n : Option ℕ) → AreTrees source xs → AreTrees source ys → first_unbuilt 1 xs ≡ m → first_unbuilt 1 ys ≡ n → m ≡ n
-  one_unbuilt source xs ys m n k l e f = sym e ∙ ap (first_unbuilt 1) (one_trees source xs ys k l) ∙ f
-
-  -- and either there is one or there is none
-  unbuilt_or_none : {A : Type 0} (source : List ℕ) (xs ys : List Stmt) (n : ℕ) → AreTrees source xs → AreTrees source ys → first_unbuilt 1 xs ≡ Some n → first_unbuilt 1 ys ≡ None → A
-  unbuilt_or_none source xs ys n k l e f = let both : Some n ≡ None = one_unbuilt source xs ys (Some n) None k l e f in cc both
-
-  -- the line of the one statement
-  one_line : (m n : ℕ) → Some m ≡ Some n → refused (parse_line (parses.Syntax m)) 3 ≡ refused (parse_line (parses.Syntax n)) 3
-  one_line m n e = let same : m ≡ n = cc e in ap (λ k. refused (parse_line (parses.Syntax k)) 3) same
-
-  -- the words and the bytes of a source have one run at most
-  pub one_run : (words : List (List ℕ)) (source : List ℕ) (r s : Run) → IsDefinedRun words source r → IsDefinedRun words source s → r ≡ s
-  one_run words source r s (no_command a1 e1) (no_command a2 e2) = e1 ∙ sym e2
-  one_run words source r s (no_command a1 e1) (too_long a2 l2 e2) = absurd (a1 a2)
-  one_run words source r s (no_command a1 e1) (no_tokens a2 f2 k2 e2) = absurd (a1 a2.0)
-  one_run words source r s (no_command a1 e1) (no_tree a2 f2 k2 e2) = absurd (a1 a2.0)
-  one_run words source r s (no_command a1 e1) (not_built a2 x2 k2 n2 m2 e2) = absurd (a1 a2.0)
-  one_run words source r s (no_command a1 e1) (is_run a2 x2 k2 m2 e2) = absurd (a1 a2.0)
-  one_run words source r s (too_long a1 l1 e1) (no_command a2 e2) = absurd (a2 a1)
-  one_run words source r s (too_long a1 l1 e1) (too_long a2 l2 e2) = e1 ∙ sym e2
-  one_run words source r s (too_long a1 l1 e1) (no_tokens a2 f2 k2 e2) = absurd (omega (arith, l1, a2.1))
-  one_run words source r s (too_long a1 l1 e1) (no_tree a2 f2 k2 e2) = absurd (omega (arith, l1, a2.1))
-  one_run words source r s (too_long a1 l1 e1) (not_built a2 x2 k2 n2 m2 e2) = absurd (omega (arith, l1, a2.1))
-  one_run words source r s (too_long a1 l1 e1) (is_run a2 x2 k2 m2 e2) = absurd (omega (arith, l1, a2.1))
-  one_run words source r s (no_tokens a1 f1 k1 e1) (no_command a2 e2) = absurd (a2 a1.0)
-  one_run words source r s (no_tokens a1 f1 k1 e1) (too_long a2 l2 e2) = absurd (omega (arith, l2, a1.1))
-  one_run words source r s (no_tokens a1 f1 k1 e1) (no_tokens a2 f2 k2 e2) = e1 ∙ ap (λ f. refused (lex_line f) 3) (laws.one_lex_fault source f1 f2 k1 k2) ∙ sym e2
-  one_run words source r s (no_tokens a1 f1 k1 e1) (no_tree a2 f2 k2 e2) = absurd (laws.no_tokens source k2.0 f1 k2.1 k1)
-  one_run words source r s (no_tokens a1 f1 k1 e1) (not_built a2 x2 k2 n2 m2 e2) = absurd (laws.no_tokens source k2.0 f1 k2.1 k1)
-  one_run words source r s (no_tokens a1 f1 k1 e1) (is_run a2 x2 k2 m2 e2) = absurd (laws.no_tokens source k2.0 f1 k2.1 k1)
-  one_run words source r s (no_tree a1 f1 k1 e1) (no_command a2 e2) = absurd (a2 a1.0)
-  one_run words source r s (no_tree a1 f1 k1 e1) (too_long a2 l2 e2) = absurd (omega (arith, l2, a1.1))
-  one_run words source r s (no_tree a1 f1 k1 e1) (no_tokens a2 f2 k2 e2) = absurd (laws.no_tokens source k1.0 f2 k1.1 k2)
-  one_run words source r s (no_tree a1 f1 k1 e1) (no_tree a2 f2 k2 e2) = e1 ∙ ap (λ f. refused (parse_line f) 3) (one_tree_fault source f1 f2 k1 k2) ∙ sym e2
-  one_run words source r s (no_tree a1 f1 k1 e1) (not_built a2 x2 k2 n2 m2 e2) = no_tree_fault source x2 f1 k2 k1
-  one_run words source r s (no_tree a1 f1 k1 e1) (is_run a2 x2 k2 m2 e2) = no_tree_fault source x2 f1 k2 k1
-  one_run words source r s (not_built a1 x1 k1 n1 m1 e1) (no_command a2 e2) = absurd (a2 a1.0)
-  one_run words source r s (not_built a1 x1 k1 n1 m1 e1) (too_long a2 l2 e2) = absurd (omega (arith, l2, a1.1))
-  one_run words source r s (not_built a1 x1 k1 n1 m1 e1) (no_tokens a2 f2 k2 e2) = absurd (laws.no_tokens source k1.0 f2 k1.1 k2)
-  one_run words source r s (not_built a1 x1 k1 n1 m1 e1) (no_tree a2 f2 k2 e2) = no_tree_fault source x1 f2 k1 k2
-  one_run words source r s (not_built a1 x1 k1 n1 m1 e1) (not_built a2 x2 k2 n2 m2 e2) = e1 ∙ one_line n1 n2 (one_unbuilt source x1 x2 (Some n1) (Some n2) k1 k2 m1 m2) ∙ sym e2
-  one_run words source r s (not_built a1 x1 k1 n1 m1 e1) (is_run a2 x2 k2 m2 e2) = unbuilt_or_none source x1 x2 n1 k1 k2 m1 m2
-  one_run words source r s (is_run a1 x1 k1 m1 e1) (no_command a2 e2) = absurd (a2 a1.0)
-  one_run words source r s (is_run a1 x1 k1 m1 e1) (too_long a2 l2 e2) = absurd (omega (arith, l2, a1.1))
-  one_run words source r s (is_run a1 x1 k1 m1 e1) (no_tokens a2 f2 k2 e2) = absurd (laws.no_tokens source k1.0 f2 k1.1 k2)
-  one_run words source r s (is_run a1 x1 k1 m1 e1) (no_tree a2 f2 k2 e2) = no_tree_fault source x1 f2 k1 k2
-  one_run words source r s (is_run a1 x1 k1 m1 e1) (not_built a2 x2 k2 n2 m2 e2) = unbuilt_or_none source x2 x1 n2 k2 k1 m2 m1
-  one_run words source r s (is_run a1 x1 k1 m1 e1) (is_run a2 x2 k2 m2 e2) = e1 ∙ ap (run_from 1 []) (one_trees source x1 x2 k1 k2) ∙ sym e2
-
--- the words and any bytes have one run at most
-abbrev pub IsOneRun : Type 0
-IsOneRun = (words : List (List ℕ)) (source : List ℕ) (r s : Run) → IsDefinedRun words source r → IsDefinedRun words source s → r ≡ s
+        by : ((command : Command) × IsCommand words command) ⊎ IsNoCommand words → (run : Run) × IsDefinedRun words source start run
+        by (inl (command, is)) = of_command command is (script_of words source command is)
+        by (inr none) = (refused words_line 2, no_command none refl)

@@ -11,7 +11,8 @@ use Rattle.og_query.specs.Queries.{Fixed, ordinary_query}
 use Rattle.og_query.specs.declared.query.Query.{Query}
 use Rattle.og_query.specs.declared.typed.Typed.{Typed}
 use Rattle.og_query.specs.declared.typed.Typed.TheVariants as t
-use Rattle.og_db.specs.Database.{Relation, world_at}
+use Rattle.og_db.specs.Database.{Relation, names_at}
+use Rattle.og_db.specs.Effects.{Effect, on_names}
 use Rattle.og_exec.specs.Tables.{rows_at}
 use Rattle.og_db.specs.Held.{Held, described, found, made_of, rows_of}
 use Rattle.og_db.specs.Runs.{AreWithin, IsWorldOf, sizes_at}
@@ -23,15 +24,15 @@ use Rattle.og_session.specs.Output.{held_layout, layout, names_text, piece_of, r
 abbrev pub name_record : {V : Type 0} → Held V → List (List ℕ)
 name_record h = h.name ∷ what_word h.what ∷ []
 
-module _ (found_at : (d : ℤ) (db : List (Held Relation)) (name : List ℕ) → found (world_at d db) name ≡ option_map (made_of (λ rel. relation_at row_order row_at rel d)) (found db name))
-    (db : List (Held Relation)) (before : List Typed) (world : IsWorldOf db before) where
+module _ (found_at : (d : ℤ) (db : List (Held Relation)) (name : List ℕ) → found (names_at d db) name ≡ option_map (made_of (λ rel. relation_at row_order row_at rel d)) (found db name))
+    (db files : List (Held Relation)) (before : List Effect) (world : IsWorldOf db files before) where
   -- a PRINT of a name writes what the name holds on the day
-  pub piece-name : (name : List ℕ) (day : ℤ) → IsRefDay day → held_layout (option_map (made_of (λ rel. relation_at row_order row_at rel day)) (found db name)) ≡ piece_of before (t.PrintName name day)
-  piece-name name day is = ap held_layout (sym (found_at day db name)) ∙ ap (λ w. held_layout (found w name)) (world.worlds day is)
+  pub piece-name : (name : List ℕ) (day : ℤ) → IsRefDay day → held_layout (option_map (made_of (λ rel. relation_at row_order row_at rel day)) (found db name)) ≡ piece_of before (on_names (t.PrintName name day))
+  piece-name name day is = ap held_layout (sym (found_at day db name)) ∙ ap (λ w. held_layout (found w name)) (world.names day is)
 
   -- a PRINT of a query writes the ordinary answer on the day
-  pub piece-query : (query : Query) (day : ℤ) (rows : List Fixed) → IsRefDay day → rows ≡ ordinary_query day (rows_at (rows_of db) day) query → layout query.first.schema rows ≡ piece_of before (t.PrintQuery query day)
-  piece-query query day rows is answer = ap (layout query.first.schema) (answer ∙ ap (λ rows. ordinary_query day rows query) (rows_at-world found_at day db) ∙ ap (λ w. ordinary_query day (named_rows w) query) (world.worlds day is))
+  pub piece-query : (query : Query) (day : ℤ) (rows : List Fixed) → IsRefDay day → rows ≡ ordinary_query day (rows_at (rows_of db) day) query → layout query.first.schema rows ≡ piece_of before (on_names (t.PrintQuery query day))
+  piece-query query day rows is answer = ap (layout query.first.schema) (answer ∙ ap (λ rows. ordinary_query day rows query) (rows_at-world found_at day db) ∙ ap (λ w. ordinary_query day (named_rows w) query) (world.names day is))
 
 module _ (f : Relation → List Fixed) where
   -- the layout of what is found
@@ -63,12 +64,12 @@ names-sizes [] = refl
 names-sizes (h ∷ hs) = ap (λ rs. name_record h ∷ rs) (names-sizes hs)
 
 -- TABLES writes the names of the database
-pub piece-tables : (db : List (Held Relation)) (before : List Typed) → IsWorldOf db before → names_text db ≡ piece_of before t.Tables
-piece-tables db before world = ap (λ rs. records ((codes "name" ∷ codes "what" ∷ []) ∷ rs)) (names-sizes db ∙ names-within (sizes_at db) _ world.sizes)
+pub piece-tables : (db files : List (Held Relation)) (before : List Effect) → IsWorldOf db files before → names_text db ≡ piece_of before (on_names t.Tables)
+piece-tables db files before world = ap (λ rs. records ((codes "name" ∷ codes "what" ∷ []) ∷ rs)) (names-sizes db ∙ names-within (sizes_at db) _ world.sizes)
 
 -- any statement but these four writes nothing
-pub others_write_nothing : (before : List Typed) (stmt : Typed) → ((name : List ℕ) (day : ℤ) → ¬ (stmt ≡ t.PrintName name day)) → ((query : Query) (day : ℤ) → ¬ (stmt ≡ t.PrintQuery query day))
-    → ¬ (stmt ≡ t.Tables) → ((query : Query) → ¬ (stmt ≡ t.Explain query)) → piece_of before stmt ≡ []
+pub others_write_nothing : (before : List Effect) (stmt : Typed) → ((name : List ℕ) (day : ℤ) → ¬ (stmt ≡ t.PrintName name day)) → ((query : Query) (day : ℤ) → ¬ (stmt ≡ t.PrintQuery query day))
+    → ¬ (stmt ≡ t.Tables) → ((query : Query) → ¬ (stmt ≡ t.Explain query)) → piece_of before (on_names stmt) ≡ []
 others_write_nothing before (t.PrintName name day) name_no query_no tables_no explain_no = absurd (name_no name day refl)
 others_write_nothing before (t.PrintQuery query day) name_no query_no tables_no explain_no = absurd (query_no query day refl)
 others_write_nothing before t.Tables name_no query_no tables_no explain_no = absurd (tables_no refl)

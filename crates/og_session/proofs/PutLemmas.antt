@@ -1,14 +1,18 @@
 -- What was put into a sink piece after piece, and how much of the whole it is where one of them is refused.
-use Rattle.std.proofs.Common.{◌≡◌, ◌++◌, ◌∷◌, ◌∙◌, ◌+◌, ◌<◌, ℕ, List, [], Option, Result, Ok, Err, get_or, length, map, take, drop, refl, sym, ap, ap₂, subst, append_assoc}
+use Rattle.std.proofs.Common.{◌≡◌, ◌++◌, ◌∷◌, ◌∙◌, ◌+◌, ◌<◌, ℕ, List, [], Option, Result, Ok, Err, Vec, get_or, length, map, take, drop, refl, sym, ap, ap₂, subst, append_assoc}
 use Rattle.std.specs.Io.KnownBytes.{Appends}
 use Rattle.std.proofs.KnownBytes.{Appends-nil, Appends-trans}
 use Rattle.std.specs.List.{flat_map}
 use Rattle.std.proofs.lemmas.List.{append-nil, drop_more, take-append-drop, take_more, map-append}
 use Rattle.std.proofs.lemmas.Grind.{flat_map-append}
+use Rattle.std.proofs.lemmas.List.Concat.{flat_map-cons}
+use Rattle.std.specs.declared.alloc.Global.{Global}
 use Rattle.csv.specs.Writing.{default_writer, row_text}
+use denote.Ref.{Bor}
 use Rattle.og_base.specs.Told.{AppendsFront}
 use Rattle.og_io.specs.declared.sink.PutRefusal.{PutRefusal}
 use Rattle.og_io.specs.declared.sink.PutRefusal.TheVariants as puts
+use Rattle.og_par.specs.Phase.{MadeOfEach}
 use Rattle.og_value.specs.Cells.{fixed_text}
 use Rattle.og_value.specs.declared.schema.Column.{Column}
 use Rattle.og_query.specs.Queries.{Fixed}
@@ -34,6 +38,14 @@ rows_text-append xs ys = ap records (map-append (map fixed_text) xs ys) ∙ reco
 -- a layout is its first record and those of its rows
 pub layout-parts : (columns : List Column) (rows : List Fixed) → layout columns rows ≡ records (map (λ column. column.name) columns ∷ []) ++ rows_text rows
 layout-parts columns rows = records-append (map (λ column. column.name) columns ∷ []) (map (map fixed_text) rows)
+
+-- the texts of blocks of rows, one after the other, are the text of the rows
+pub texts_of : (blocks : List (Bor (List Fixed))) (texts : List (Vec ℕ Global)) → MadeOfEach (λ block made. flat_map (λ text. text.items) made ≡ rows_text block.now) blocks texts
+    → flat_map (λ text. text.items) texts ≡ rows_text (flat_map (λ b. b.now) blocks)
+texts_of [] texts made = ap (flat_map (λ text. text.items)) made ∙ sym records-none
+texts_of (b ∷ blocks) texts made =
+    ap (flat_map (λ text. text.items)) made.4 ∙ flat_map-append (λ text. text.items) made.0 made.1 ∙ ap₂ (λ xs ys. xs ++ ys) made.2 (texts_of blocks made.1 made.3)
+    ∙ sym (rows_text-append b.now (flat_map (λ c. c.now) blocks)) ∙ ap rows_text (sym (flat_map-cons (λ c. c.now) b blocks))
 
 -- what has nothing has no parts
 front_none : (xs ys : List ℕ) → xs ++ ys ≡ [] → xs ≡ []

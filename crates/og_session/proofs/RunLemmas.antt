@@ -1,132 +1,157 @@
 -- The run of the statements that are left, and what those before have written.
-use Rattle.std.proofs.Common.{◌≡◌, ◌++◌, ◌⊎◌, inl, inr, ◌≤◌, ℕ, suc, List, [], ◌∷◌, length, drop, Option, Ok, Err, refl, sym, ap, ◌∙◌, subst}
+use Rattle.std.proofs.Common.{◌≡◌, ◌++◌, ◌≤◌, ℕ, suc, List, [], ◌∷◌, length, drop, Option, Some, None, Result, Ok, Err, refl, sym, ap, ◌∙◌, subst}
 use Rattle.std.proofs.lemmas.List.{append_assoc, append-nil, drop_all}
 use Rattle.std.specs.Io.KnownBytes.{Appends}
 use Rattle.std.proofs.KnownBytes.{Appends-nil, Appends-trans}
 use Rattle.og_base.specs.Told.{IsPrefix}
 use Rattle.og_syntax.specs.declared.tree.Stmt.{Stmt}
-use Rattle.og_query.specs.declared.typed.Typed.{Typed}
-use Rattle.og_check.specs.Statements.{checked}
-use Rattle.og_check.specs.Steps.{Checked}
+use Rattle.og_io.specs.Folders.{Folder}
 use Rattle.og_db.specs.Database.{Relation}
+use Rattle.og_db.specs.Effects.{Effect, on_names, saved, reopened, opened, imported}
 use Rattle.og_db.specs.Held.{Held}
-use Rattle.og_db.specs.Runs.{IsWorldOf, known_after}
-use Rattle.og_session.specs.Ends.{RunEnds, StepEnds, IsUnreported, piece_or_line, written_at}
-use Rattle.og_session.specs.Headline.{IsCutShort, IsCutAtPiece, next_piece}
+use Rattle.og_session.specs.Contents.{Contents, Refused, by_checks, by_file, outcome}
+use Rattle.og_session.specs.Ends.{RunEnds, StepEnds, IsUnreported, IsOfFile, is_saved_by, piece_or_line}
+use Rattle.og_session.specs.Headline.{IsCut, IsCutShort, IsCutAtFile, IsCutAtPiece, IsAtFile, HoldFiles, IsStateBut, IsStateOf, is_written_by, next_piece}
 use Rattle.og_session.specs.Output.{piece_of, output_from}
-use Rattle.og_session.specs.Runs.{Run, after_check, run_from}
-use Rattle.og_session.specs.declared.fault.Fault.TheVariants as faults
+use Rattle.og_session.specs.Runs.{Run, after_outcome, run_from}
 use Rattle.og_session.specs.declared.fault.Stop.{Stop}
 use Rattle.og_session.specs.declared.fault.Stop.TheVariants as stops
 
 -- what more statements write
-pub output_from-append : (front xs ys : List Typed) → output_from front (xs ++ ys) ≡ output_from front xs ++ output_from (front ++ xs) ys
+pub output_from-append : (front xs ys : List Effect) → output_from front (xs ++ ys) ≡ output_from front xs ++ output_from (front ++ xs) ys
 output_from-append front [] ys = ap (λ l. output_from l ys) (sym (append-nil front))
 output_from-append front (x ∷ xs) ys =
     ap (λ t. piece_of front x ++ t) (output_from-append (front ++ x ∷ []) xs ys ∙ ap (λ l. output_from (front ++ x ∷ []) xs ++ output_from l ys) (append_assoc front (x ∷ []) xs))
     ∙ sym (append_assoc (piece_of front x) (output_from (front ++ x ∷ []) xs) (output_from (front ++ x ∷ xs) ys))
 
 -- what one statement more writes
-pub output_from-push : (xs : List Typed) (x : Typed) → output_from [] (xs ++ x ∷ []) ≡ output_from [] xs ++ piece_of xs x
+pub output_from-push : (xs : List Effect) (x : Effect) → output_from [] (xs ++ x ∷ []) ≡ output_from [] xs ++ piece_of xs x
 output_from-push xs x = output_from-append [] xs (x ∷ []) ∙ ap (λ t. output_from [] xs ++ t) (append-nil (piece_of xs x))
 
--- a run carries out those before it, and more
-pub run_from-done : (n : ℕ) (before : List Typed) (stmts : List Stmt) → (more : List Typed) × ((run_from n before stmts).done ≡ before ++ more)
-run_from-done n before [] = ([], sym (append-nil before))
-run_from-done n before (stmt ∷ stmts) = at (checked (known_after before) stmt) (λ typed. run_from-done (suc n) (before ++ typed ∷ []) stmts)
-  where
-    at : (c : Checked Typed) → ((typed : Typed) → (more : List Typed) × ((run_from (suc n) (before ++ typed ∷ []) stmts).done ≡ (before ++ typed ∷ []) ++ more))
-        → (more : List Typed) × ((after_check n before (λ typed. run_from (suc n) (before ++ typed ∷ []) stmts) c).done ≡ before ++ more)
-    at (Ok typed) rest = let more = rest typed in (typed ∷ more.0, more.1 ∙ append_assoc before (typed ∷ []) more.0)
-    at (Err fault) rest = ([], sym (append-nil before))
+module _ (start : Folder) (contents : Contents) where
+  -- a run carries out those before it, and more
+  run_from-done : (n : ℕ) (before : List Effect) (stmts : List Stmt) → (more : List Effect) × ((run_from contents n before stmts).done ≡ before ++ more)
+  run_from-done n before [] = ([], sym (append-nil before))
+  run_from-done n before (stmt ∷ stmts) = at (outcome contents before stmt) (λ effect. run_from-done (suc n) (before ++ effect ∷ []) stmts)
+    where
+      at : (o : Result Effect Refused) → ((effect : Effect) → (more : List Effect) × ((run_from contents (suc n) (before ++ effect ∷ []) stmts).done ≡ (before ++ effect ∷ []) ++ more))
+          → (more : List Effect) × ((after_outcome n before (λ effect. run_from contents (suc n) (before ++ effect ∷ []) stmts) o).done ≡ before ++ more)
+      at (Ok effect) rest = let more = rest effect in (effect ∷ more.0, more.1 ∙ append_assoc before (effect ∷ []) more.0)
+      at (Err refusal) rest = ([], sym (append-nil before))
 
--- what is written next, where a run goes on with a statement
-pub next_piece-at : (n : ℕ) (before : List Typed) (stmt : Stmt) (stmts : List Stmt)
-    → (after : List Typed) × ((run_from n before (stmt ∷ stmts)).done ≡ before ++ after) × (next_piece before after (run_from n before (stmt ∷ stmts)).line ≡ written_at n before stmt)
-next_piece-at n before stmt stmts = at (checked (known_after before) stmt)
-  where
-    run_of : Checked Typed → Run
-    run_of c = after_check n before (λ typed. run_from (suc n) (before ++ typed ∷ []) stmts) c
+  -- what is next in a run after some statements, by what the next one should do
+  record IsNext (n : ℕ) (before : List Effect) (run : Run) (o : Result Effect Refused) : Type 0 where
+    pub after : List Effect
+    pub parts : run.done ≡ before ++ after
+    pub piece : next_piece before after run.line ≡ piece_or_line n before o
+    pub name : (other : List ℕ) → is_saved_by o other → is_written_by after other
+    pub at : IsOfFile o → IsAtFile after run.status
 
-    at : (c : Checked Typed) → (after : List Typed) × ((run_of c).done ≡ before ++ after) × (next_piece before after (run_of c).line ≡ piece_or_line n before c)
-    at (Ok typed) = let more = run_from-done (suc n) (before ++ typed ∷ []) stmts in (typed ∷ more.0, more.1 ∙ append_assoc before (typed ∷ []) more.0, refl)
-    at (Err fault) = ([], sym (append-nil before), refl)
+  next_at : (n : ℕ) (before : List Effect) (stmt : Stmt) (stmts : List Stmt) → IsNext n before (run_from contents n before (stmt ∷ stmts)) (outcome contents before stmt)
+  next_at n before stmt stmts = by (outcome contents before stmt)
+    where
+      run_of : Result Effect Refused → Run
+      run_of o = after_outcome n before (λ effect. run_from contents (suc n) (before ++ effect ∷ []) stmts) o
 
--- the status of the run of statements
-pub run_from-status : (n : ℕ) (before : List Typed) (stmts : List Stmt) → ((run_from n before stmts).status ≡ 0) ⊎ ((run_from n before stmts).status ≡ 4)
-run_from-status n before [] = inl refl
-run_from-status n before (stmt ∷ stmts) = at (checked (known_after before) stmt) (λ typed. run_from-status (suc n) (before ++ typed ∷ []) stmts)
-  where
-    at : (c : Checked Typed) → ((typed : Typed) → ((run_from (suc n) (before ++ typed ∷ []) stmts).status ≡ 0) ⊎ ((run_from (suc n) (before ++ typed ∷ []) stmts).status ≡ 4))
-        → ((after_check n before (λ typed. run_from (suc n) (before ++ typed ∷ []) stmts) c).status ≡ 0) ⊎ ((after_check n before (λ typed. run_from (suc n) (before ++ typed ∷ []) stmts) c).status ≡ 4)
-    at (Ok typed) rest = rest typed
-    at (Err fault) rest = inr refl
+      same : (effect : Effect) (more : List Effect) (other : List ℕ) → is_saved_by (Ok effect) other → is_written_by (effect ∷ more) other
+      same (on_names stmt) more other h = h
+      same (saved name file) more other h = h
+      same (reopened name file) more other h = h
+      same (opened name columns rel) more other h = h
+      same (imported name rows) more other h = h
 
--- after so many statements: those before were carried out, what they write was written, and the run is that of those that are left
-pub record IsAt (stmts : List Stmt) (i : ℕ) (db : List (Held Relation)) (old now : Option (List ℕ)) : Type 0 where
-  pub before : List Typed
-  pub state : IsWorldOf db before
-  pub written : Appends old now (output_from [] before)
-  pub rest : run_from 1 [] stmts ≡ run_from (suc i) before (drop i stmts)
+      file : (effect : Effect) (more : List Effect) (status : ℕ) → IsOfFile (Ok effect) → IsAtFile (effect ∷ more) status
+      file (on_names stmt) more status h = h
+      file (saved name f) more status h = h
+      file (reopened name f) more status h = h
+      file (opened name columns rel) more status h = h
+      file (imported name rows) more status h = h
 
--- a statement more was carried out
-pub turn-more : (stmts rest : List Stmt) (i n m : ℕ) (stmt : Stmt) (db new_db : List (Held Relation)) (old now new : Option (List ℕ)) (at : IsAt stmts i db old now)
-    → drop i stmts ≡ stmt ∷ rest → drop m stmts ≡ rest → suc i ≡ n → suc m ≡ suc n
-    → (text : List ℕ) × Appends now new text × StepEnds n at.before stmt new_db text (Ok tt) → IsAt stmts m new_db old new
-turn-more stmts rest i n m stmt db new_db old now new at left right one two (text, appended, (typed, good, world, piece)) = record {
-  before = at.before ++ typed ∷ [];
-  state = world;
-  written = subst (Appends old new) (ap (λ t. output_from [] at.before ++ t) piece ∙ sym (output_from-push at.before typed))
-      (Appends-trans old now new (output_from [] at.before) text at.written appended);
-  rest = at.rest ∙ ap (λ k. run_from k at.before (drop i stmts)) one ∙ ap (run_from n at.before) left
-      ∙ ap (after_check n at.before (λ typed. run_from (suc n) (at.before ++ typed ∷ []) rest)) good
-      ∙ ap (λ k. run_from k (at.before ++ typed ∷ []) rest) (sym two) ∙ ap (run_from (suc m) (at.before ++ typed ∷ [])) (sym right);
-}
+      by : (o : Result Effect Refused) → IsNext n before (run_of o) o
+      by (Ok effect) = let more = run_from-done (suc n) (before ++ effect ∷ []) stmts in record {
+        after = effect ∷ more.0;
+        parts = more.1 ∙ append_assoc before (effect ∷ []) more.0;
+        piece = refl;
+        name = same effect more.0;
+        at = file effect more.0 (run_of (Ok effect)).status;
+      }
+      by (Err (by_checks refusal)) = record { after = []; parts = sym (append-nil before); piece = refl; name = λ other h. h; at = λ h. absurd h }
+      by (Err (by_file fault)) = record { after = []; parts = sym (append-nil before); piece = refl; name = λ other h. h; at = λ h. refl }
 
--- the run was stopped at a statement
-pub turn-stopped : (stmts rest : List Stmt) (i n : ℕ) (stmt : Stmt) (db new_db : List (Held Relation)) (old now new : Option (List ℕ)) (stop : Stop) (at : IsAt stmts i db old now)
-    → drop i stmts ≡ stmt ∷ rest → suc i ≡ n → (text : List ℕ) × Appends now new text × StepEnds n at.before stmt new_db text (Err stop)
-    → (text : List ℕ) × Appends old new text × RunEnds (run_from 1 [] stmts) new_db text (Err stop)
-turn-stopped stmts rest i n stmt db new_db old now new stop at left one (text, appended, ends) =
-    (output_from [] at.before ++ text, Appends-trans old now new (output_from [] at.before) text at.written appended, by stop ends)
-  where
-    run : run_from 1 [] stmts ≡ run_from n at.before (stmt ∷ rest)
-    run = at.rest ∙ ap (λ k. run_from k at.before (drop i stmts)) one ∙ ap (run_from n at.before) left
+  -- after so many statements: those before were carried out, what they write was written, and the run is that of those that are left
+  pub record IsAt (stmts : List Stmt) (i : ℕ) (db : List (Held Relation)) (folder : Option Folder) (old now : Option (List ℕ)) : Type 0 where
+    pub before : List Effect
+    pub state : IsStateOf start before db folder
+    pub written : Appends old now (output_from [] before)
+    pub rest : run_from contents 1 [] stmts ≡ run_from contents (suc i) before (drop i stmts)
 
-    cut : IsWorldOf new_db at.before → IsPrefix text (written_at n at.before stmt) → IsCutShort (run_from n at.before (stmt ∷ rest)) new_db (output_from [] at.before ++ text)
-    cut world begun = let next = next_piece-at n at.before stmt rest in record {
-      before = at.before;
-      after = next.0;
-      front = text;
-      parts = next.1;
-      state = world;
-      written = refl;
-      begun = subst (IsPrefix text) (sym next.2) begun;
-    }
+  -- a statement more was carried out
+  pub turn-more : (stmts rest : List Stmt) (i n m : ℕ) (stmt : Stmt) (db new_db : List (Held Relation)) (folder new_folder : Option Folder) (old now new : Option (List ℕ)) (at : IsAt stmts i db folder old now)
+      → drop i stmts ≡ stmt ∷ rest → drop m stmts ≡ rest → suc i ≡ n → suc m ≡ suc n
+      → (text : List ℕ) × Appends now new text × StepEnds start n at.before (outcome contents at.before stmt) new_db new_folder text (Ok tt) → IsAt stmts m new_db new_folder old new
+  turn-more stmts rest i n m stmt db new_db folder new_folder old now new at left right one two (text, appended, (effect, good, state, piece)) = record {
+    before = at.before ++ effect ∷ [];
+    state = state;
+    written = subst (Appends old new) (ap (λ t. output_from [] at.before ++ t) piece ∙ sym (output_from-push at.before effect))
+        (Appends-trans old now new (output_from [] at.before) text at.written appended);
+    rest = at.rest ∙ ap (λ k. run_from contents k at.before (drop i stmts)) one ∙ ap (run_from contents n at.before) left
+        ∙ ap (after_outcome n at.before (λ effect. run_from contents (suc n) (at.before ++ effect ∷ []) rest)) good
+        ∙ ap (λ k. run_from contents k (at.before ++ effect ∷ []) rest) (sym two) ∙ ap (run_from contents (suc m) (at.before ++ effect ∷ [])) (sym right);
+  }
 
-    by : (s : Stop) → StepEnds n at.before stmt new_db text (Err s) → RunEnds (run_from 1 [] stmts) new_db (output_from [] at.before ++ text) (Err s)
-    by (stops.Fault fault) (refusal, bad, is, world, none) =
-        subst (λ f. RunEnds (run_from 1 [] stmts) new_db (output_from [] at.before ++ text) (Err (stops.Fault f))) (sym is)
-        (subst (λ r. RunEnds r new_db (output_from [] at.before ++ text) (Err (stops.Fault (faults.Check n refusal))))
-        (sym (run ∙ ap (after_check n at.before (λ typed. run_from (suc n) (at.before ++ typed ∷ []) rest)) bad))
-        (record { written = ap (λ t. output_from [] at.before ++ t) none ∙ append-nil (output_from [] at.before); state = world; last = refl; ended = refl }))
-    by stops.ReadFault h = absurd h
-    by stops.WriteFault (world, begun, some) =
-        subst (λ r. IsCutAtPiece r new_db (output_from [] at.before ++ text)) (sym run)
-        (record { cut = cut world begun; some = λ e. some (sym (next_piece-at n at.before stmt rest).2 ∙ e) })
-    by stops.NoMemory (world, begun) = subst (λ r. IsCutShort r new_db (output_from [] at.before ++ text)) (sym run) (cut world begun)
+  -- the run was stopped at a statement
+  pub turn-stopped : (stmts rest : List Stmt) (i n : ℕ) (stmt : Stmt) (db new_db : List (Held Relation)) (folder new_folder : Option Folder) (old now new : Option (List ℕ)) (stop : Stop) (at : IsAt stmts i db folder old now)
+      → drop i stmts ≡ stmt ∷ rest → suc i ≡ n → (text : List ℕ) × Appends now new text × StepEnds start n at.before (outcome contents at.before stmt) new_db new_folder text (Err stop)
+      → (text : List ℕ) × Appends old new text × RunEnds (run_from contents 1 [] stmts) start new_db new_folder text (Err stop)
+  turn-stopped stmts rest i n stmt db new_db folder new_folder old now new stop at left one (text, appended, ends) =
+      (output_from [] at.before ++ text, Appends-trans old now new (output_from [] at.before) text at.written appended, by stop ends)
+    where
+      here : Run
+      here = run_from contents n at.before (stmt ∷ rest)
 
--- no statement is left
-pub turn-last : (stmts : List Stmt) (i : ℕ) (db : List (Held Relation)) (old now : Option (List ℕ)) → IsAt stmts i db old now → length stmts ≤ i
-    → (text : List ℕ) × Appends old now text × RunEnds (run_from 1 [] stmts) db text (Ok tt)
-turn-last stmts i db old now at end = (
-  output_from [] at.before,
-  at.written,
-  subst (λ r. IsUnreported r db (output_from [] at.before) [] 0) (sym (at.rest ∙ ap (run_from (suc i) at.before) (drop_all i stmts end)))
-      (record { written = refl; state = at.state; last = refl; ended = refl }),
-)
+      run : run_from contents 1 [] stmts ≡ here
+      run = at.rest ∙ ap (λ k. run_from contents k at.before (drop i stmts)) one ∙ ap (run_from contents n at.before) left
 
--- no statement was begun
-pub not_begun : (run : Run) (db : List (Held Relation)) (old : Option (List ℕ)) → IsWorldOf db [] → (text : List ℕ) × Appends old old text × RunEnds run db text (Err stops.NoMemory)
-not_begun run db old world =
-    ([], Appends-nil old, record { before = []; after = run.done; front = []; parts = refl; state = world; written = refl; begun = (next_piece [] run.done run.line, refl) })
+      next : IsNext n at.before here (outcome contents at.before stmt)
+      next = next_at n at.before stmt rest
+
+      cut : IsPrefix text (piece_or_line n at.before (outcome contents at.before stmt)) → IsCut here (output_from [] at.before ++ text)
+      cut begun = record { before = at.before; after = next.after; front = text; parts = next.parts; written = refl; begun = subst (IsPrefix text) (sym next.piece) begun }
+
+      but : IsStateBut (is_saved_by (outcome contents at.before stmt)) start at.before new_db new_folder → IsStateBut (is_written_by next.after) start at.before new_db new_folder
+      but state = record { files = state.files; held = held new_folder state.held; world = state.world }
+        where
+          held : (folder : Option Folder) → HoldFiles (is_saved_by (outcome contents at.before stmt)) start state.files folder → HoldFiles (is_written_by next.after) start state.files folder
+          held None h = absurd h
+          held (Some folder) h = λ name no. h name (λ yes. no (next.name name yes))
+
+      by : (s : Stop) → StepEnds start n at.before (outcome contents at.before stmt) new_db new_folder text (Err s)
+          → RunEnds (run_from contents 1 [] stmts) start new_db new_folder (output_from [] at.before ++ text) (Err s)
+      by (stops.Fault fault) (refusal, bad, is, state, none) =
+          subst (λ r. RunEnds r start new_db new_folder (output_from [] at.before ++ text) (Err (stops.Fault fault)))
+          (sym (run ∙ ap (after_outcome n at.before (λ effect. run_from contents (suc n) (at.before ++ effect ∷ []) rest)) bad))
+          (record { written = ap (λ t. output_from [] at.before ++ t) none ∙ append-nil (output_from [] at.before); state = state; last = sym is.line; ended = sym is.status })
+      by stops.ReadFault h = absurd h
+      by stops.FileFault (is, state, none) =
+          subst (λ r. IsCutAtFile r start new_db new_folder (output_from [] at.before ++ text)) (sym run)
+          (record { cut = cut (subst (λ t. IsPrefix t (piece_or_line n at.before (outcome contents at.before stmt))) (sym none) (piece_or_line n at.before (outcome contents at.before stmt), refl)); state = but state; at = next.at is })
+      by stops.WriteFault (state, begun, some) =
+          subst (λ r. IsCutAtPiece r start new_db new_folder (output_from [] at.before ++ text)) (sym run)
+          (record { short = record { cut = cut begun; state = state }; some = λ e. some (sym next.piece ∙ e) })
+      by stops.NoMemory (state, begun) = subst (λ r. IsCutShort r start new_db new_folder (output_from [] at.before ++ text)) (sym run) (record { cut = cut begun; state = state })
+
+  -- no statement is left
+  pub turn-last : (stmts : List Stmt) (i : ℕ) (db : List (Held Relation)) (folder : Option Folder) (old now : Option (List ℕ)) → IsAt stmts i db folder old now → length stmts ≤ i
+      → (text : List ℕ) × Appends old now text × RunEnds (run_from contents 1 [] stmts) start db folder text (Ok tt)
+  turn-last stmts i db folder old now at end = (
+    output_from [] at.before,
+    at.written,
+    subst (λ r. IsUnreported r start db folder (output_from [] at.before) [] 0) (sym (at.rest ∙ ap (run_from contents (suc i) at.before) (drop_all i stmts end)))
+        (record { written = refl; state = at.state; last = refl; ended = refl }),
+  )
+
+  -- no statement was begun
+  pub not_begun : (run : Run) (db : List (Held Relation)) (folder : Option Folder) (old : Option (List ℕ)) → IsStateOf start [] db folder
+      → (text : List ℕ) × Appends old old text × RunEnds run start db folder text (Err stops.NoMemory)
+  not_begun run db folder old state =
+      ([], Appends-nil old, record { cut = record { before = []; after = run.done; front = []; parts = refl; written = refl; begun = (next_piece [] run.done run.line, refl) }; state = state })

@@ -1,20 +1,22 @@
--- How the code's run ends.
-use Rattle.std.specs.Prelude.{◌≡◌, ◌++◌, ℕ, List, [], ◌∷◌, Result, Ok, Err}
+-- How the code's run ends. Beside private functions alone.
+use Rattle.std.specs.Prelude.{◌≡◌, ◌++◌, ◌⊎◌, ⊤, ℕ, Bool, true, false, List, [], ◌∷◌, Option, Some, Contains, Result, Ok, Err}
 use Rattle.og_base.specs.Told.{IsPrefix}
-use Rattle.og_syntax.specs.declared.tree.Stmt.{Stmt}
 use Rattle.og_query.specs.declared.typed.Typed.{Typed}
-use Rattle.og_check.specs.Statements.{checked}
-use Rattle.og_check.specs.Steps.{Checked}
-use Rattle.og_check.specs.declared.refusal.CheckRefusal.{CheckRefusal}
+use Rattle.og_query.specs.declared.typed.Typed.TheVariants as t
+use Rattle.og_io.specs.Folders.{Folder}
+use Rattle.og_words.specs.declared.command.Command.{Command}
+use Rattle.og_words.specs.declared.command.Command.TheVariants as commands
 use Rattle.og_db.specs.Database.{Relation}
+use Rattle.og_db.specs.Effects.{Effect, on_names, saved}
 use Rattle.og_db.specs.Held.{Held}
-use Rattle.og_db.specs.Runs.{IsWorldOf, known_after}
 use Rattle.og_lex.specs.declared.refusal.LexRefusal.TheVariants as lexes
 use Rattle.og_parse.specs.declared.refusal.ParseRefusal.TheVariants as parses
-use Rattle.og_session.specs.Headline.{IsCutShort, IsCutAtPiece, IsWhole}
-use Rattle.og_session.specs.Lines.{words_line, too_long_line, lex_line, parse_line, check_line}
+use Rattle.og_session.specs.Contents.{Refused, by_checks, by_file, no_file, in_file}
+use Rattle.og_file.specs.declared.refusal.FileRefusal.TheVariants as files
+use Rattle.og_session.specs.Headline.{IsCutShort, IsCutAtPiece, IsCutAtFile, IsStateBut, IsStateOf}
+use Rattle.og_session.specs.Lines.{words_line, too_long_line, lex_line, parse_line, check_line, file_line, refused_line, refused_status}
 use Rattle.og_session.specs.Output.{piece_of, output_from}
-use Rattle.og_session.specs.Runs.{Run, IsDefinedRun}
+use Rattle.og_session.specs.Runs.{Run, IsNoCommand, IsRun, IsScriptFault, output}
 use Rattle.og_session.specs.declared.fault.Fault.{Fault}
 use Rattle.og_session.specs.declared.fault.Fault.TheVariants as faults
 use Rattle.og_session.specs.declared.fault.Stop.{Stop}
@@ -31,11 +33,19 @@ fault_line (faults.Syntax statement) = parse_line (parses.Syntax statement)
 fault_line (faults.TooDeep statement) = parse_line (parses.TooDeep statement)
 fault_line (faults.Literal statement) = parse_line (parses.Literal statement)
 fault_line (faults.Check statement refusal) = check_line statement refusal
+fault_line (faults.NoFile statement file) = file_line statement (no_file file)
+fault_line (faults.Header statement) = file_line statement (in_file files.Header)
+fault_line (faults.Record statement number) = file_line statement (in_file (files.Cell number))
+fault_line (faults.RowCount statement said found) = file_line statement (in_file (files.RowCount said found))
 
 -- the status of a fault
 abbrev pub fault_status : Fault → ℕ
 fault_status faults.Words = 2
 fault_status (faults.Check statement refusal) = 4
+fault_status (faults.NoFile statement file) = 5
+fault_status (faults.Header statement) = 5
+fault_status (faults.Record statement number) = 5
+fault_status (faults.RowCount statement said found) = 5
 fault_status _ = 3
 
 -- the status of a run's end
@@ -43,59 +53,143 @@ abbrev pub status_of : Result (Unit {0}) Stop → ℕ
 status_of (Ok done) = 0
 status_of (Err (stops.Fault fault)) = fault_status fault
 status_of (Err stops.ReadFault) = 6
+status_of (Err stops.FileFault) = 7
 status_of (Err stops.WriteFault) = 8
 status_of (Err stops.NoMemory) = 9
 
--- what a statement writes where it has passed its checks, and else the line of its fault
-abbrev pub piece_or_line : ℕ → List Typed → Checked Typed → List ℕ
-piece_or_line n before (Ok typed) = piece_of before typed
-piece_or_line n before (Err fault) = check_line n fault
+-- ---- the words and the script
 
--- what is written at a statement after those before
-abbrev pub written_at : ℕ → List Typed → Stmt → List ℕ
-written_at n before stmt = piece_or_line n before (checked (known_after before) stmt)
+-- the command is run
+abbrev pub IsRunCommand : Command → Type 0
+IsRunCommand (commands.Run workers) = ⊤
+IsRunCommand _ = ⊥
 
--- how one statement ends, after those before: with its piece and its world, with its fault, or with a front of what it writes
-abbrev pub StepEnds : ℕ → List Typed → Stmt → List (Held Relation) → List ℕ → Result (Unit {0}) Stop → Type 0
-StepEnds n before stmt db text (Ok done) =
-    (typed : Typed) × (checked (known_after before) stmt ≡ Ok typed) × IsWorldOf db (before ++ typed ∷ []) × (text ≡ piece_of before typed)
-StepEnds n before stmt db text (Err (stops.Fault fault)) =
-    (refusal : CheckRefusal) × (checked (known_after before) stmt ≡ Err refusal) × (fault ≡ faults.Check n refusal) × IsWorldOf db before × (text ≡ [])
-StepEnds n before stmt db text (Err stops.ReadFault) = ⊥
-StepEnds n before stmt db text (Err stops.WriteFault) = IsWorldOf db before × IsPrefix text (written_at n before stmt) × (¬ (written_at n before stmt ≡ []))
-StepEnds n before stmt db text (Err stops.NoMemory) = IsWorldOf db before × IsPrefix text (written_at n before stmt)
+-- the source has these bytes left, where the command asks for them
+abbrev pub IsSourceOf : Command → Option (List ℕ) → List ℕ → Type 0
+IsSourceOf command left source = IsRunCommand command → left ≡ Some source
 
--- what was written before the line of the fault, and the world after the statements that were carried out
-pub record IsUnreported (run : Run) (db : List (Held Relation)) (text line : List ℕ) (status : ℕ) : Type 0 where
+-- why a command has no statements to run: its source is no script, or failed, or memory ran out
+abbrev pub IsScriptStop : List ℕ → Stop → Type 0
+IsScriptStop source (stops.Fault fault) = IsScriptFault source (fault_line fault)
+IsScriptStop source _ = ⊤
+
+-- and what else is known of it
+abbrev pub IsStopBefore : Command → Stop → Type 0
+IsStopBefore command (stops.Fault fault) = IsRunCommand command × (fault_status fault ≡ 3)
+IsStopBefore command stops.ReadFault = IsRunCommand command
+IsStopBefore command stops.FileFault = ⊥
+IsStopBefore command stops.WriteFault = ⊥
+IsStopBefore command stops.NoMemory = ⊤
+
+-- the run ended with one of these statuses
+abbrev pub EndsWith : List ℕ → Result (Unit {0}) Stop → Type 0
+EndsWith statuses end = Contains statuses (status_of end)
+
+-- what is known of an end whatever is told of the files
+pub record IsEndOf (words : List (List ℕ)) (left : Option (List ℕ)) (end : Result (Unit {0}) Stop) : Type 0 where
+  pub no_command : IsNoCommand words → EndsWith (2 ∷ 8 ∷ 9 ∷ []) end
+  pub command : status_of end ≡ 2 → IsNoCommand words
+  pub run : status_of end ≡ 6 → IsRun words
+  pub no_script : (source line : List ℕ) → IsRun words → left ≡ Some source → IsScriptFault source line → EndsWith (3 ∷ 6 ∷ 8 ∷ 9 ∷ []) end
+  pub script : (source : List ℕ) → (IsRun words → left ≡ Some source) → status_of end ≡ 3 → IsRun words × (line : List ℕ) × IsScriptFault source line
+
+-- ---- the statements
+
+-- what a statement writes, or the line of its fault
+abbrev pub piece_or_line : ℕ → List Effect → Result Effect Refused → List ℕ
+piece_or_line n before (Ok effect) = piece_of before effect
+piece_or_line n before (Err refusal) = refused_line n refusal
+
+-- a statement asks for a file
+abbrev pub IsOfFile : Result Effect Refused → Type 0
+IsOfFile (Ok (on_names stmt)) = ⊥
+IsOfFile (Ok _) = ⊤
+IsOfFile (Err (by_checks refusal)) = ⊥
+IsOfFile (Err (by_file fault)) = ⊤
+
+-- the name that a statement writes, where it is a SAVE
+abbrev pub is_saved_by : Result Effect Refused → List ℕ → Type 0
+is_saved_by (Ok (saved name file)) other = other ≡ file
+is_saved_by _ other = ⊥
+
+-- the fault says why the statement is refused
+pub record IsFaultOf (n : ℕ) (refusal : Refused) (fault : Fault) : Type 0 where
+  pub line : fault_line fault ≡ refused_line n refusal
+  pub status : fault_status fault ≡ refused_status refusal
+
+-- how one statement ends, after those before, where it should do this or be refused so: with its piece and its world, with its fault, or with a front of what it writes
+abbrev pub StepEnds : Folder → ℕ → List Effect → Result Effect Refused → List (Held Relation) → Option Folder → List ℕ → Result (Unit {0}) Stop → Type 0
+StepEnds start n before outcome db folder text (Ok done) =
+    (effect : Effect) × (outcome ≡ Ok effect) × IsStateOf start (before ++ effect ∷ []) db folder × (text ≡ piece_of before effect)
+StepEnds start n before outcome db folder text (Err (stops.Fault fault)) =
+    (refusal : Refused) × (outcome ≡ Err refusal) × IsFaultOf n refusal fault × IsStateOf start before db folder × (text ≡ [])
+StepEnds start n before outcome db folder text (Err stops.ReadFault) = ⊥
+StepEnds start n before outcome db folder text (Err stops.FileFault) = IsOfFile outcome × IsStateBut (is_saved_by outcome) start before db folder × (text ≡ [])
+StepEnds start n before outcome db folder text (Err stops.WriteFault) = IsStateOf start before db folder × IsPrefix text (piece_or_line n before outcome) × (¬ (piece_or_line n before outcome ≡ []))
+StepEnds start n before outcome db folder text (Err stops.NoMemory) = IsStateOf start before db folder × IsPrefix text (piece_or_line n before outcome)
+
+-- a statement of files is stopped by its file, by the files or by want of memory
+abbrev pub IsFileStop : Result (Unit {0}) Stop → Type 0
+IsFileStop (Ok done) = ⊤
+IsFileStop (Err (stops.Fault fault)) = fault_status fault ≡ 5
+IsFileStop (Err stops.FileFault) = ⊤
+IsFileStop (Err stops.NoMemory) = ⊤
+IsFileStop (Err _) = ⊥
+
+-- a statement of names that passed its checks is stopped by the sink or by want of memory
+abbrev pub IsPutStop : Result (Unit {0}) Stop → Type 0
+IsPutStop (Ok done) = ⊤
+IsPutStop (Err stops.WriteFault) = ⊤
+IsPutStop (Err stops.NoMemory) = ⊤
+IsPutStop (Err _) = ⊥
+
+-- a statement is stopped by its checks, by its file, by the files, by the sink or by want of memory
+abbrev pub IsStepStop : Result (Unit {0}) Stop → Type 0
+IsStepStop (Err (stops.Fault fault)) = (fault_status fault ≡ 4) ⊎ (fault_status fault ≡ 5)
+IsStepStop (Err stops.ReadFault) = ⊥
+IsStepStop _ = ⊤
+
+-- whether a statement is built: all are but VALID and LIVE
+abbrev pub is_built_typed : Typed → Bool
+is_built_typed (t.Valid name day) = false
+is_built_typed (t.Live name query) = false
+is_built_typed _ = true
+
+-- ---- the run
+
+-- what was written before the line of the fault, and the state after the statements that were carried out
+pub record IsUnreported (run : Run) (start : Folder) (db : List (Held Relation)) (folder : Option Folder) (text line : List ℕ) (status : ℕ) : Type 0 where
   pub written : text ≡ output_from [] run.done
-  pub state : IsWorldOf db run.done
+  pub state : IsStateOf start run.done db folder
   pub last : run.line ≡ line
   pub ended : run.status ≡ status
 
 -- how the statements end, before any line of a fault
-abbrev pub RunEnds : Run → List (Held Relation) → List ℕ → Result (Unit {0}) Stop → Type 0
-RunEnds run db text (Ok done) = IsUnreported run db text [] 0
-RunEnds run db text (Err (stops.Fault fault)) = IsUnreported run db text (fault_line fault) (fault_status fault)
-RunEnds run db text (Err stops.ReadFault) = ⊥
-RunEnds run db text (Err stops.WriteFault) = IsCutAtPiece run db text
-RunEnds run db text (Err stops.NoMemory) = IsCutShort run db text
+abbrev pub RunEnds : Run → Folder → List (Held Relation) → Option Folder → List ℕ → Result (Unit {0}) Stop → Type 0
+RunEnds run start db folder text (Ok done) = IsUnreported run start db folder text [] 0
+RunEnds run start db folder text (Err (stops.Fault fault)) = IsUnreported run start db folder text (fault_line fault) (fault_status fault)
+RunEnds run start db folder text (Err stops.ReadFault) = ⊥
+RunEnds run start db folder text (Err stops.FileFault) = IsCutAtFile run start db folder text
+RunEnds run start db folder text (Err stops.WriteFault) = IsCutAtPiece run start db folder text
+RunEnds run start db folder text (Err stops.NoMemory) = IsCutShort run start db folder text
 
--- the defined run ends so, before any line of a fault
-abbrev pub IsEnded : List (List ℕ) → List ℕ → List (Held Relation) → List ℕ → List ℕ → ℕ → Type 0
-IsEnded words source db text line status = (run : Run) × IsDefinedRun words source run × IsUnreported run db text line status
+-- how a run ends, over its defined run, before any line of a fault
+abbrev pub EndsUnreported : Run → Folder → List (Held Relation) → Option Folder → List ℕ → Result (Unit {0}) Stop → Type 0
+EndsUnreported run start db folder text (Err stops.ReadFault) = text ≡ []
+EndsUnreported run start db folder text end = RunEnds run start db folder text end
 
--- what was written before any line of a fault
-abbrev pub EndsUnreported : List (List ℕ) → List ℕ → List (Held Relation) → List ℕ → Result (Unit {0}) Stop → Type 0
-EndsUnreported words source db text (Ok done) = IsEnded words source db text [] 0
-EndsUnreported words source db text (Err (stops.Fault fault)) = IsEnded words source db text (fault_line fault) (fault_status fault)
-EndsUnreported words source db text (Err stops.ReadFault) = text ≡ []
-EndsUnreported words source db text (Err stops.WriteFault) = (run : Run) → IsDefinedRun words source run → IsCutAtPiece run db text
-EndsUnreported words source db text (Err stops.NoMemory) = (run : Run) → IsDefinedRun words source run → IsCutShort run db text
+-- the run ended as it is defined: it wrote all, with that line last, and the state is that after the statements that were carried out
+pub record IsWhole (run : Run) (start : Folder) (db : List (Held Relation)) (folder : Option Folder) (text line : List ℕ) (status : ℕ) : Type 0 where
+  pub ended : run.status ≡ status
+  pub last : run.line ≡ line
+  pub written : text ≡ output run
+  pub state : IsStateOf start run.done db folder
 
--- what was written in all
-abbrev pub Ends : List (List ℕ) → List ℕ → List (Held Relation) → List ℕ → Result (Unit {0}) Stop → Type 0
-Ends words source db text (Ok done) = IsWhole words source db text 0
-Ends words source db text (Err (stops.Fault fault)) = IsWhole words source db text (fault_status fault)
-Ends words source db text (Err stops.ReadFault) = text ≡ []
-Ends words source db text (Err stops.WriteFault) = (run : Run) → IsDefinedRun words source run → IsCutAtPiece run db text
-Ends words source db text (Err stops.NoMemory) = (run : Run) → IsDefinedRun words source run → IsCutShort run db text
+-- how a run ends, over its defined run
+abbrev pub Ends : Run → Folder → List (Held Relation) → Option Folder → List ℕ → Result (Unit {0}) Stop → Type 0
+Ends run start db folder text (Ok done) = IsWhole run start db folder text [] 0
+Ends run start db folder text (Err (stops.Fault fault)) = IsWhole run start db folder text (fault_line fault) (fault_status fault)
+Ends run start db folder text (Err stops.ReadFault) = text ≡ []
+Ends run start db folder text (Err stops.FileFault) = IsCutAtFile run start db folder text
+Ends run start db folder text (Err stops.WriteFault) = IsCutAtPiece run start db folder text
+Ends run start db folder text (Err stops.NoMemory) = IsCutShort run start db folder text

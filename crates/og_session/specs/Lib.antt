@@ -1,10 +1,12 @@
 pub mod Answers
+pub mod Commands
+pub mod Contents
+pub mod Counts
 pub mod Ends
 pub mod Headline
 pub mod Lines
 pub mod Output
 pub mod Puts
 pub mod Reading
-pub mod Records
 pub mod Runs
 pub mod Stops

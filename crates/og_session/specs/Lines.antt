@@ -9,6 +9,8 @@ use Rattle.og_parse.specs.declared.refusal.ParseRefusal.{ParseRefusal}
 use Rattle.og_parse.specs.declared.refusal.ParseRefusal.TheVariants as parses
 use Rattle.og_check.specs.declared.refusal.CheckRefusal.{CheckRefusal}
 use Rattle.og_check.specs.declared.refusal.CheckRefusal.TheVariants as checks
+use Rattle.og_file.specs.declared.refusal.FileRefusal.TheVariants as files
+use Rattle.og_session.specs.Contents.{FileFault, no_file, in_file, Refused, by_checks, by_file}
 
 -- the line where the words are no command
 abbrev pub words_line : List ℕ
@@ -61,3 +63,24 @@ check_line n (checks.KindsDiffer found wanted) = numbered_between (codes "fault 
 check_line n (checks.CountsDiffer found wanted) = numbered_between (codes "fault counts differ statement ") n (decimal found) (codes " for ") (decimal wanted)
 check_line n (checks.TooMany found limit) = numbered_between (codes "fault too many statement ") n (decimal found) (codes " of ") (decimal limit)
 check_line n checks.NoMemory = []
+
+-- the line where a name has no file
+abbrev pub no_file_line : ℕ → List ℕ → List ℕ
+no_file_line n file = numbered_with (codes "fault no file statement ") n file
+
+-- the line of a fault of a file, with the number of the statement
+abbrev pub file_line : ℕ → FileFault → List ℕ
+file_line n (no_file file) = no_file_line n file
+file_line n (in_file files.Header) = numbered (codes "fault header statement ") n
+file_line n (in_file (files.Cell number)) = numbered (codes "fault record " ++ decimal number ++ codes " statement ") n
+file_line n (in_file (files.RowCount said found)) = numbered_between (codes "fault row count statement ") n (codes "said " ++ decimal said) (codes " found ") (decimal found)
+file_line n (in_file files.NoMemory) = []
+
+-- the line of a statement that is refused, and the status
+abbrev pub refused_line : ℕ → Refused → List ℕ
+refused_line n (by_checks refusal) = check_line n refusal
+refused_line n (by_file fault) = file_line n fault
+
+abbrev pub refused_status : Refused → ℕ
+refused_status (by_checks refusal) = 4
+refused_status (by_file fault) = 5

@@ -7,13 +7,12 @@ use Rattle.og_value.specs.declared.kind.What.{What}
 use Rattle.og_value.specs.declared.kind.What.TheVariants as what
 use Rattle.og_value.specs.declared.schema.Column.{Column}
 use Rattle.og_query.specs.Queries.{Fixed, ordinary_query}
-use Rattle.og_query.specs.declared.typed.Typed.{Typed}
 use Rattle.og_query.specs.declared.typed.Typed.TheVariants as t
 use Rattle.og_plan.specs.PlanOf.{plan_of}
 use Rattle.og_plan.specs.Text.{plan_text}
+use Rattle.og_db.specs.Effects.{Effect, on_names, sizes_after, world_of_day}
 use Rattle.og_db.specs.Held.{Held, found}
-use Rattle.og_db.specs.Runs.{sizes_after}
-use Rattle.og_db.specs.Statements.{named_rows, unbuilt, world_of_day}
+use Rattle.og_db.specs.Statements.{named_rows}
 
 -- records, one after the other, as csv writes them
 unfoldable pub records : List (List (List ℕ)) → List ℕ
@@ -39,24 +38,14 @@ abbrev pub names_text : {V : Type 0} → List (Held V) → List ℕ
 names_text held = records ((codes "name" ∷ codes "what" ∷ []) ∷ map (λ h. h.name ∷ what_word h.what ∷ []) held)
 
 -- what a statement writes after those before it: a PRINT writes the rows in the world of its own day
-abbrev pub piece_of : List Typed → Typed → List ℕ
-piece_of before (t.PrintName name day) = held_layout (found (world_of_day day before) name)
-piece_of before (t.PrintQuery query day) = layout query.first.schema (ordinary_query day (named_rows (world_of_day day before)) query)
-piece_of before t.Tables = names_text (sizes_after before)
-piece_of before (t.Explain query) = plan_text (plan_of query)
-piece_of before (t.Create name columns) = []
-piece_of before (t.Insert name tuples) = []
-piece_of before (t.Delete name cond) = []
-piece_of before (t.Update name sets cond) = []
-piece_of before (t.Drop name) = []
-piece_of before (t.Keep name query) = []
-piece_of before (t.Save name file) = unbuilt []
-piece_of before (t.OpenFile name file) = unbuilt []
-piece_of before (t.ImportFile name file) = unbuilt []
-piece_of before (t.Valid name day) = unbuilt []
-piece_of before (t.Live name query) = unbuilt []
+abbrev pub piece_of : List Effect → Effect → List ℕ
+piece_of before (on_names (t.PrintName name day)) = held_layout (found (world_of_day day before).names name)
+piece_of before (on_names (t.PrintQuery query day)) = layout query.first.schema (ordinary_query day (named_rows (world_of_day day before).names) query)
+piece_of before (on_names t.Tables) = names_text (sizes_after before).names
+piece_of before (on_names (t.Explain query)) = plan_text (plan_of query)
+piece_of before _ = []
 
 -- what statements write, one after the other, after those before them
-abbrev pub output_from : List Typed → List Typed → List ℕ
+abbrev pub output_from : List Effect → List Effect → List ℕ
 output_from before [] = []
-output_from before (s ∷ ss) = piece_of before s ++ output_from (before ++ s ∷ []) ss
+output_from before (e ∷ es) = piece_of before e ++ output_from (before ++ e ∷ []) es

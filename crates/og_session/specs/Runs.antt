@@ -1,5 +1,5 @@
 -- Defined run: which statements a run carries out, what it writes, and with which status it ends.
-use Rattle.std.specs.Prelude.{◌≡◌, ◌≤◌, ◌<◌, ◌++◌, ℕ, suc, Bool, true, false, List, [], ◌∷◌, Option, Some, None, Ok, Err, length, codes, if◌then◌else◌}
+use Rattle.std.specs.Prelude.{◌≡◌, ◌≤◌, ◌<◌, ◌++◌, ℕ, suc, Bool, true, false, List, [], ◌∷◌, Option, Some, None, Result, Ok, Err, length, if◌then◌else◌}
 use Rattle.og_lex.specs.Faults as lexer
 use Rattle.og_lex.specs.Grammar.{IsLexed}
 use Rattle.og_lex.specs.declared.refusal.LexRefusal.{LexRefusal}
@@ -9,16 +9,21 @@ use Rattle.og_parse.specs.declared.refusal.ParseRefusal.{ParseRefusal}
 use Rattle.og_parse.specs.declared.refusal.ParseRefusal.TheVariants as parses
 use Rattle.og_syntax.specs.declared.tree.Stmt.{Stmt}
 use Rattle.og_syntax.specs.declared.tree.Stmt.TheVariants as s
-use Rattle.og_query.specs.declared.typed.Typed.{Typed}
-use Rattle.og_check.specs.Statements.{checked}
-use Rattle.og_check.specs.Steps.{Checked}
-use Rattle.og_db.specs.Runs.{known_after}
-use Rattle.og_session.specs.Lines.{words_line, too_long_line, lex_line, parse_line, check_line}
+use Rattle.og_words.specs.Grammar.{IsCommand}
+use Rattle.og_words.specs.declared.command.Command.{Command}
+use Rattle.og_words.specs.declared.command.Command.TheVariants as commands
+use Rattle.og_io.specs.Folders.{Folder}
+use Rattle.og_db.specs.Effects.{Effect}
+use Rattle.og_session.specs.Commands.{at_script, load_script}
+use Rattle.og_session.specs.Contents.{Contents, AreContents, Refused, outcome}
+use Rattle.og_session.specs.Lines.{words_line, too_long_line, lex_line, parse_line, refused_line, refused_status}
 use Rattle.og_session.specs.Output.{output_from}
 
--- the statements that are carried out, the line of the fault after them, which is empty without a fault, and the status
+-- ---- the statements
+
+-- what the statements that are carried out do, the line of the fault after them, which is empty without a fault, and the status
 pub record Run : Type 0 where
-  pub done : List Typed
+  pub done : List Effect
   pub line : List ℕ
   pub status : ℕ
 
@@ -30,42 +35,28 @@ output run = output_from [] run.done ++ run.line
 abbrev pub refused : List ℕ → ℕ → Run
 refused line status = record { done = []; line = line; status = status }
 
--- the run after the statements before, where the next one, which has that number, was checked
-abbrev pub after_check : ℕ → List Typed → (Typed → Run) → Checked Typed → Run
-after_check n before next (Ok typed) = next typed
-after_check n before next (Err fault) = record { done = before; line = check_line n fault; status = 4 }
+-- the run after the statements before, where the next one, which has that number, does this or is refused
+abbrev pub after_outcome : ℕ → List Effect → (Effect → Run) → Result Effect Refused → Run
+after_outcome n before next (Ok effect) = next effect
+after_outcome n before next (Err refusal) = record { done = before; line = refused_line n refusal; status = refused_status refusal }
 
--- the run of statements after those before: each is checked in turn, and the first with a fault ends it
-abbrev pub run_from : ℕ → List Typed → List Stmt → Run
-run_from n before [] = record { done = before; line = []; status = 0 }
-run_from n before (stmt ∷ stmts) = after_check n before (λ typed. run_from (suc n) (before ++ typed ∷ []) stmts) (checked (known_after before) stmt)
+-- the run of statements after those before, over what the files hold at the start: the first with a fault ends it
+abbrev pub run_from : Contents → ℕ → List Effect → List Stmt → Run
+run_from start n before [] = record { done = before; line = []; status = 0 }
+run_from start n before (stmt ∷ stmts) = after_outcome n before (λ effect. run_from start (suc n) (before ++ effect ∷ []) stmts) (outcome start before stmt)
 
--- whether a statement is built: all are but those of files, VALID and LIVE
+-- ---- the script
+
+-- whether a statement is built: all are but VALID and LIVE
 abbrev pub is_built : Stmt → Bool
-is_built (s.Create name columns) = true
-is_built (s.Insert name rows) = true
-is_built (s.Delete name cond) = true
-is_built (s.Update name sets cond) = true
-is_built (s.Drop name) = true
-is_built s.Tables = true
-is_built (s.Keep name query) = true
-is_built (s.PrintName name day) = true
-is_built (s.PrintQuery query day) = true
-is_built (s.Save name file) = false
-is_built (s.OpenFile name file) = false
-is_built (s.ImportFile name file) = false
-is_built (s.Explain query) = true
 is_built (s.Valid name day) = false
 is_built (s.Live name query) = false
+is_built _ = true
 
 -- the number of the first statement that is not built, where the first of all has that number
 abbrev pub first_unbuilt : ℕ → List Stmt → Option ℕ
 first_unbuilt n [] = None
 first_unbuilt n (stmt ∷ stmts) = if is_built stmt then first_unbuilt (suc n) stmts else Some n
-
--- the words are the command run
-abbrev pub IsRun : List (List ℕ) → Type 0
-IsRun words = words ≡ codes "run" ∷ []
 
 -- the most bytes of a source
 abbrev pub max_source : ℕ
@@ -79,21 +70,45 @@ AreTrees source stmts = (tokens : List Token) × IsLexed source tokens × parser
 abbrev pub IsTreeFault : List ℕ → ParseRefusal → Type 0
 IsTreeFault source fault = (tokens : List Token) × IsLexed source tokens × parser.IsFirstFault source tokens fault
 
--- the words are the command run, and the source keeps its limit
-abbrev pub IsCommand : List (List ℕ) → List ℕ → Type 0
-IsCommand words source = IsRun words × (length source ≤ max_source)
+-- the source is this script
+pub record IsScript (source : List ℕ) (stmts : List Stmt) : Type 0 where
+  pub short : length source ≤ max_source
+  pub trees : AreTrees source stmts
+  pub built : first_unbuilt 1 stmts ≡ None
 
--- defined run of the words and the source's bytes
-pub data IsDefinedRun (words : List (List ℕ)) (source : List ℕ) (run : Run) : Type 0 where
-  -- the words are no command
-  no_command : ¬ IsRun words → run ≡ refused words_line 2 → IsDefinedRun words source run
-  -- the source has too many bytes
-  too_long : IsRun words → max_source < length source → run ≡ refused too_long_line 3 → IsDefinedRun words source run
-  -- the source has no tokens
-  no_tokens : IsCommand words source → (fault : LexRefusal) → lexer.IsFirstFault source fault → run ≡ refused (lex_line fault) 3 → IsDefinedRun words source run
-  -- the tokens have no tree
-  no_tree : IsCommand words source → (fault : ParseRefusal) → IsTreeFault source fault → run ≡ refused (parse_line fault) 3 → IsDefinedRun words source run
+-- the source is no script, and this is the line of its fault
+pub data IsScriptFault (source line : List ℕ) : Type 0 where
+  -- it has too many bytes
+  too_long : max_source < length source → line ≡ too_long_line → IsScriptFault source line
+  -- it has no tokens
+  no_tokens : length source ≤ max_source → (fault : LexRefusal) → lexer.IsFirstFault source fault → line ≡ lex_line fault → IsScriptFault source line
+  -- its tokens have no tree
+  no_tree : length source ≤ max_source → (fault : ParseRefusal) → IsTreeFault source fault → line ≡ parse_line fault → IsScriptFault source line
   -- a statement is not built
-  not_built : IsCommand words source → (stmts : List Stmt) → AreTrees source stmts → (n : ℕ) → first_unbuilt 1 stmts ≡ Some n → run ≡ refused (parse_line (parses.Syntax n)) 3 → IsDefinedRun words source run
-  -- the statements are built, and run up to the first with a fault
-  is_run : IsCommand words source → (stmts : List Stmt) → AreTrees source stmts → first_unbuilt 1 stmts ≡ None → run ≡ run_from 1 [] stmts → IsDefinedRun words source run
+  not_built : length source ≤ max_source → (stmts : List Stmt) → AreTrees source stmts → (n : ℕ) → first_unbuilt 1 stmts ≡ Some n → line ≡ parse_line (parses.Syntax n) → IsScriptFault source line
+
+-- ---- the run
+
+-- the words are the command run
+abbrev pub IsRun : List (List ℕ) → Type 0
+IsRun words = (workers : ℕ) × IsCommand words (commands.Run workers)
+
+-- the words are no command
+abbrev pub IsNoCommand : List (List ℕ) → Type 0
+IsNoCommand words = (command : Command) → ¬ IsCommand words command
+
+-- the command runs these statements: those of the source, or those of its own script
+abbrev pub IsScriptOf : Command → List ℕ → List Stmt → Type 0
+IsScriptOf (commands.Run workers) source stmts = IsScript source stmts
+IsScriptOf (commands.At file day) source stmts = stmts ≡ at_script file day
+IsScriptOf (commands.Load rows workers) source stmts = stmts ≡ load_script rows
+
+-- defined run of the words, the source's bytes and the files at the start
+pub data IsDefinedRun (words : List (List ℕ)) (source : List ℕ) (start : Folder) (run : Run) : Type 0 where
+  -- the words are no command
+  no_command : IsNoCommand words → run ≡ refused words_line 2 → IsDefinedRun words source start run
+  -- the source is to be run, and is no script
+  no_script : IsRun words → (line : List ℕ) → IsScriptFault source line → run ≡ refused line 3 → IsDefinedRun words source start run
+  -- the statements run up to the first with a fault
+  is_run : (command : Command) → IsCommand words command → (stmts : List Stmt) → IsScriptOf command source stmts
+      → (contents : Contents) → AreContents start contents → run ≡ run_from contents 1 [] stmts → IsDefinedRun words source start run

@@ -2,6 +2,10 @@
 use Rattle.std.specs.Prelude.{ℕ}
 use Rattle.og_check.specs.declared.refusal.CheckRefusal.{CheckRefusal}
 use Rattle.og_check.specs.declared.refusal.CheckRefusal.TheVariants as checks
+use Rattle.og_file.specs.declared.refusal.FileRefusal.{FileRefusal}
+use Rattle.og_file.specs.declared.refusal.FileRefusal.TheVariants as contents
+use Rattle.og_io.specs.declared.files.FilesRefusal.{FilesRefusal}
+use Rattle.og_io.specs.declared.files.FilesRefusal.TheVariants as files
 use Rattle.og_io.specs.declared.sink.PutRefusal.{PutRefusal}
 use Rattle.og_io.specs.declared.sink.PutRefusal.TheVariants as puts
 use Rattle.og_lex.specs.declared.refusal.LexRefusal.{LexRefusal}
@@ -10,9 +14,11 @@ use Rattle.og_parse.specs.declared.refusal.ParseRefusal.{ParseRefusal}
 use Rattle.og_parse.specs.declared.refusal.ParseRefusal.TheVariants as parses
 use Rattle.og_session.specs.declared.fault.Fault.TheVariants as faults
 use Rattle.og_session.specs.declared.fault.Stop.{Stop}
-use Rattle.og_session.specs.declared.fault.Stop.TheVariants.{Fault, ReadFault, WriteFault, NoMemory}
+use Rattle.og_session.specs.declared.fault.Stop.TheVariants.{Fault, ReadFault, FileFault, WriteFault, NoMemory}
 use Rattle.og_session.specs.declared.source.SourceRefusal.{SourceRefusal}
 use Rattle.og_session.specs.declared.source.SourceRefusal.TheVariants as sources
+use Rattle.og_words.specs.declared.command.WordsRefusal.{WordsRefusal}
+use Rattle.og_words.specs.declared.command.WordsRefusal.TheVariants as words
 
 -- of a piece of output
 abbrev pub stop_of_put : PutRefusal → Stop
@@ -43,3 +49,20 @@ stop_of_parse parses.NoMemory = NoMemory
 abbrev pub stop_of_check : ℕ → CheckRefusal → Stop
 stop_of_check n checks.NoMemory = NoMemory
 stop_of_check n refusal = Fault (faults.Check n refusal)
+
+-- of the words
+abbrev pub stop_of_words : WordsRefusal → Stop
+stop_of_words words.NoCommand = Fault faults.Words
+stop_of_words words.NoMemory = NoMemory
+
+-- of a file that was not read or written
+abbrev pub stop_of_files : FilesRefusal → Stop
+stop_of_files files.Failed = FileFault
+stop_of_files files.NoMemory = NoMemory
+
+-- of the bytes of a file, at the statement with that number
+abbrev pub stop_of_bytes : ℕ → FileRefusal → Stop
+stop_of_bytes n contents.Header = Fault (faults.Header n)
+stop_of_bytes n (contents.Cell number) = Fault (faults.Record n number)
+stop_of_bytes n (contents.RowCount said found) = Fault (faults.RowCount n said found)
+stop_of_bytes n contents.NoMemory = NoMemory

@@ -1,162 +1,98 @@
-//! Carries out a script, up to its fault's line.
-ghost use Rattle.std.specs.Prelude.{◌≡◌, ◌≤◌, ◌↔◌, [], ◌∷◌, IsTrue, ℕ, List, Ok, Err, Some, None, IfOk, IfErr, OnOk, OnErr, length};
+//! Carries out a command, up to its fault's line.
+ghost use Rattle.std.specs.Prelude.{◌≡◌, ◌≤◌, [], ◌∷◌, ℕ, List, Some, None, OnOk};
 ghost use Rattle.std.specs.Io.KnownBytes.{Appends};
-ghost use Rattle.og_base.specs.Told.{Rose};
 ghost use Rattle.og_par.specs.Limits.{max_workers};
-ghost use Rattle.og_session.specs.Ends.{EndsUnreported, RunEnds, status_of};
-ghost use Rattle.og_session.specs.Headline.{IsTold, IsBeforeStatements};
-ghost use Rattle.og_session.specs.Runs.{IsRun, AreTrees, first_unbuilt, run_from, max_source};
-ghost use Rattle.og_session.specs.Runs as spec;
-ghost use Rattle.og_session.specs.declared.fault.Fault.{Fault};
-ghost use Rattle.og_session.specs.declared.fault.Stop.{Stop};
+ghost use Rattle.og_io.specs.Folders.{Folder};
+ghost use Rattle.og_words.specs.Grammar.{IsCommand};
+ghost use Rattle.og_session.specs.Contents.{AreContents, Contents};
+ghost use Rattle.og_session.specs.Counts.{IsAbsenceCount, IsFaultCount, is_file_fault, is_read_fault, is_write_fault};
+ghost use Rattle.og_session.specs.Ends.{EndsUnreported, EndsWith, IsEndOf, RunEnds};
+ghost use Rattle.og_session.specs.Runs.{IsDefinedRun, IsRun, Run, first_unbuilt, run_from};
 
-use crate::fault::{Fault, Stop};
-use crate::law::one_defined_run;
+use crate::fault::Stop;
+use crate::law::defined_runs;
 use crate::moves::turned;
-use crate::source::read_source;
+use crate::script::{script_of, workers_of};
 use crate::step::step;
 use og_base::Words;
 use og_db::{Db, no_statements};
-use og_io::{Sink, Source};
-use og_lex::lex;
-use og_parse::{Script, parse};
+use og_io::{Files, Sink, Source};
+use og_par::Gate;
 use og_syntax::Stmt;
+use og_words::read_words;
 use sqlite_items::Items;
 use std::alloc::Global;
 use std::thread::Threads;
 
 /// Runs the command that the words are over a database without names, and writes what it prints, up to
 /// the line of a fault.
-pub fn carry_out<H: Threads + Sync, S: Source, K: Sink>(
+pub fn carry_out<H: Threads + Sync, S: Source, K: Sink, F: Files, G: Gate + Sync>(
     rt: &H,
     alloc: Global,
     words: &Words,
-    workers: usize,
     src: &mut S,
     out: &mut K,
+    files: &mut F,
     db: &mut Db,
+    gate: &G,
 ) -> Result<(), Stop>
-    requires least { 1 ≤ workers }
-    requires most { workers ≤ max_workers }
-    requires empty { db.old ≡ [] }
-    ensures told { (source : List ℕ) → IsTold words.now (S.left src.old) source →
-        (text : List ℕ) × Appends (K.written out.old) (K.written out.new) text × EndsUnreported words.now source db.new text result }
-    ensures words { (result ≡ Err (Stop.Fault Fault.Words)) ↔ (¬ IsRun words.now) }
+    requires { db.old ≡ [] }
+    ensures told { (source : List ℕ) (start : Folder) (run : Run) → (IsRun words.now → S.left src.old ≡ Some source) → F.folder files.old ≡ Some start → IsDefinedRun words.now source start run →
+        (text : List ℕ) × Appends (K.written out.old) (K.written out.new) text × EndsUnreported run start db.new (F.folder files.new) text result }
     ensures drained { (source : List ℕ) → IsRun words.now → S.left src.old ≡ Some source → OnOk result (S.left src.new ≡ Some []) }
     ensures untouched { ¬ IsRun words.now → src.new ≡ src.old }
-    ensures read_fault { result ≡ Err Stop.ReadFault → IsRun words.now × Rose (S.faults src.old) (S.faults src.new) }
-    ensures write_fault { result ≡ Err Stop.WriteFault → Rose (K.faults out.old) (K.faults out.new) }
-    ensures later { K.faults out.old ≤ K.faults out.new }
-    ensures no_names { IsBeforeStatements (status_of result) → db.new ≡ [] }
+    ensures ended { IsEndOf words.now (S.left src.old) result }
+    ensures before { EndsWith (2 ∷ 3 ∷ 6 ∷ []) result → (db.new ≡ []) × (files.new ≡ files.old) }
+    ensures reads { IsFaultCount (is_read_fault result) (S.faults src.old) (S.faults src.new) }
+    ensures files { IsFaultCount (is_file_fault result) (F.faults files.old) (F.faults files.new) }
+    ensures writes { IsFaultCount (is_write_fault result) (K.faults out.old) (K.faults out.new) }
+    ensures absences { IsAbsenceCount result (F.absences files.old) (F.absences files.new) }
 {
+    defined_runs();
     no_statements();
-    if !is_run(words) {
-        return Err(Stop::Fault(Fault::Words));
-    }
-    let bytes = read_source(alloc, src)?;
-    run_bytes(rt, alloc, bytes.as_slice(), workers, out, db)
-}
-
-// Whether the words are the command run.
-fn is_run(words: &Words) -> bool
-    ensures { IsTrue result ↔ IsRun words.now }
-{
-    words.len() == 1 && words.word(0) == "run"
-}
-
-// Reads the bytes as a script and runs it.
-fn run_bytes<H: Threads + Sync, K: Sink>(
-    rt: &H,
-    alloc: Global,
-    bytes: &[u8],
-    workers: usize,
-    out: &mut K,
-    db: &mut Db,
-) -> Result<(), Stop>
-    requires least { 1 ≤ workers }
-    requires most { workers ≤ max_workers }
-    requires small { length bytes.now ≤ max_source }
-    requires empty { db.old ≡ [] }
-    ensures ends { (words : List (List ℕ)) → IsRun words →
-        (text : List ℕ) × Appends (K.written out.old) (K.written out.new) text × EndsUnreported words bytes.now db.new text result }
-    ensures words { result ≡ Err (Stop.Fault Fault.Words) → ⊥ }
-    ensures read_fault { result ≡ Err Stop.ReadFault → ⊥ }
-    ensures write_fault { result ≡ Err Stop.WriteFault → Rose (K.faults out.old) (K.faults out.new) }
-    ensures later { K.faults out.old ≤ K.faults out.new }
-    ensures no_names { IsBeforeStatements (status_of result) → db.new ≡ [] }
-{
-    one_defined_run();
-    no_statements();
-    let script = tree_of(alloc, bytes)?;
-    if let Some(statement) = first_unbuilt(script.stmts.as_slice()) {
-        return Err(Stop::Fault(Fault::Syntax { statement }));
-    }
-    run_statements(rt, alloc, script.stmts, workers, out, db)
-}
-
-// The tree of the bytes.
-fn tree_of(alloc: Global, bytes: &[u8]) -> Result<Script, Stop>
-    requires { length bytes.now ≤ max_source }
-    ensures tree { IfOk result (λ tree. AreTrees bytes.now tree.stmts) }
-    ensures stopped { (words : List (List ℕ)) → IsRun words → IfErr result (λ stop. EndsUnreported words bytes.now [] [] (Err stop)) }
-    ensures words { result ≡ Err (Stop.Fault Fault.Words) → ⊥ }
-    ensures read_fault { result ≡ Err Stop.ReadFault → ⊥ }
-    ensures write_fault { result ≡ Err Stop.WriteFault → ⊥ }
-{
-    no_statements();
-    let tokens = lex(alloc, bytes)?;
-    let tree = parse(alloc, bytes, tokens.as_slice())?;
-    Ok(tree)
-}
-
-// The number of the first statement, counted from 1, that does not run.
-fn first_unbuilt(stmts: &[Stmt]) -> Option<usize>
-    ensures { result ≡ spec.first_unbuilt 1 stmts.now }
-{
-    'stmts: for place in 0..stmts.len() {
-        if !is_built(&stmts[place]) {
-            return Some(place + 1);
-        }
-    }
-    None
-}
-
-// Whether the statement runs: all do but those of files, VALID and LIVE.
-fn is_built(stmt: &Stmt) -> bool
-    ensures { result ≡ spec.is_built stmt.now }
-{
-    !matches!(
-        stmt,
-        Stmt::Save { .. }
-            | Stmt::OpenFile { .. }
-            | Stmt::ImportFile { .. }
-            | Stmt::Valid { .. }
-            | Stmt::Live { .. }
-    )
+    let command = read_words(alloc, words)?;
+    let workers = workers_of(&command);
+    let stmts = script_of(alloc, command, src)?;
+    run_statements(rt, alloc, stmts, workers, out, files, db, gate)
 }
 
 // Runs the statements, which are built, in order, up to the first with a fault. Each is gone once it is
 // carried out.
-fn run_statements<H: Threads + Sync, K: Sink>(
+fn run_statements<H: Threads + Sync, K: Sink, F: Files, G: Gate + Sync>(
     rt: &H,
     alloc: Global,
     stmts: Items<Stmt>,
     workers: usize,
     out: &mut K,
+    files: &mut F,
     db: &mut Db,
+    gate: &G,
 ) -> Result<(), Stop>
     requires least { 1 ≤ workers }
     requires most { workers ≤ max_workers }
-    requires built { spec.first_unbuilt 1 stmts ≡ None }
+    requires built { first_unbuilt 1 stmts ≡ None }
     requires empty { db.old ≡ [] }
-    ensures ends { (text : List ℕ) × Appends (K.written out.old) (K.written out.new) text × RunEnds (run_from 1 [] stmts) db.new text result }
-    ensures write_fault { result ≡ Err Stop.WriteFault → Rose (K.faults out.old) (K.faults out.new) }
-    ensures later { K.faults out.old ≤ K.faults out.new }
+    ensures ends { (start : Folder) (contents : Contents) → F.folder files.old ≡ Some start → AreContents start contents →
+        (text : List ℕ) × Appends (K.written out.old) (K.written out.new) text × RunEnds (run_from contents 1 [] stmts) start db.new (F.folder files.new) text result }
+    ensures late { EndsWith (2 ∷ 3 ∷ 6 ∷ []) result → ⊥ }
+    ensures files { IsFaultCount (is_file_fault result) (F.faults files.old) (F.faults files.new) }
+    ensures writes { IsFaultCount (is_write_fault result) (K.faults out.old) (K.faults out.new) }
+    ensures absences { IsAbsenceCount result (F.absences files.old) (F.absences files.new) }
 {
     no_statements();
     let mut left = turned(alloc, stmts)?;
     'stmts: for place in 0..left.len() {
-        step(rt, alloc, place + 1, &mut left, workers, out, db)?;
+        step(
+            rt,
+            alloc,
+            place + 1,
+            &mut left,
+            workers,
+            out,
+            files,
+            db,
+            gate,
+        )?;
     }
     Ok(())
 }

@@ -5,9 +5,11 @@ ghost use Rattle.og_value.specs.declared.value.Value.{Value};
 ghost use Rattle.og_query.specs.Fits.{IsFit};
 ghost use Rattle.og_query.specs.declared.typed.Typed.{Typed};
 ghost use Rattle.og_query.specs.declared.typed.Typed.TheVariants as t;
-ghost use Rattle.og_db.specs.Held.{known_of};
+ghost use Rattle.og_db.specs.Database.{Relation};
+ghost use Rattle.og_db.specs.Effects.{Effect, on_names};
+ghost use Rattle.og_db.specs.Held.{Held, known_of};
 ghost use Rattle.og_db.specs.Runs.{IsWorldOf};
-ghost use Rattle.og_db.specs.Statements.{is_built};
+ghost use Rattle.og_db.specs.Statements.{is_of_names};
 
 use crate::answer::answer;
 use crate::moves::into_vec;
@@ -20,7 +22,7 @@ use sqlite_items::Items;
 use std::alloc::Global;
 use std::thread::Threads;
 
-/// Carries out a statement that is built and whose names and kinds fit. The rows of an INSERT go into the
+/// Carries out a statement that acts on names alone and whose names and kinds fit. The rows of an INSERT go into the
 /// table without a copy. Refused only for want of memory, and then nothing has changed.
 pub fn execute<H: Threads + Sync, G: Gate + Sync>(
     rt: &H,
@@ -32,9 +34,9 @@ pub fn execute<H: Threads + Sync, G: Gate + Sync>(
 ) -> Result<(), NoMemory>
     requires least { 1 ≤ workers }
     requires most { workers ≤ max_workers }
-    requires built { is_built stmt ≡ true }
+    requires names { is_of_names stmt ≡ true }
     requires fits { IsFit (known_of db.old) stmt }
-    ensures world { OnOk result ((statements : List Typed) → IsWorldOf db.old statements → IsWorldOf db.new (statements ++ stmt ∷ [])) }
+    ensures world { OnOk result ((files : List (Held Relation)) (effects : List Effect) → IsWorldOf db.old files effects → IsWorldOf db.new files (effects ++ on_names stmt ∷ [])) }
     ensures refused { OnErr result (db.new ≡ db.old) }
 {
     match stmt {
@@ -50,7 +52,7 @@ pub fn execute<H: Threads + Sync, G: Gate + Sync>(
 // Moves the rows into the table.
 fn insert(alloc: Global, name: &Name, rows: Items<Row>, db: &mut Db) -> Result<(), NoMemory>
     requires fits { IsFit (known_of db.old) (t.Insert name.now rows) }
-    ensures world { OnOk result ((statements : List Typed) → IsWorldOf db.old statements → IsWorldOf db.new (statements ++ t.Insert name.now rows ∷ [])) }
+    ensures world { OnOk result ((files : List (Held Relation)) (effects : List Effect) → IsWorldOf db.old files effects → IsWorldOf db.new files (effects ++ on_names (t.Insert name.now rows) ∷ [])) }
     ensures refused { OnErr result (db.new ≡ db.old) }
 {
     one_statement_more();
@@ -68,10 +70,10 @@ fn change<H: Threads + Sync, G: Gate + Sync>(
 ) -> Result<(), NoMemory>
     requires least { 1 ≤ workers }
     requires most { workers ≤ max_workers }
-    requires built { is_built stmt.now ≡ true }
+    requires names { is_of_names stmt.now ≡ true }
     requires other { (name : List ℕ) (rows : List (List Value)) → ¬ (stmt.now ≡ t.Insert name rows) }
     requires fits { IsFit (known_of db.old) stmt.now }
-    ensures world { OnOk result ((statements : List Typed) → IsWorldOf db.old statements → IsWorldOf db.new (statements ++ stmt.now ∷ [])) }
+    ensures world { OnOk result ((files : List (Held Relation)) (effects : List Effect) → IsWorldOf db.old files effects → IsWorldOf db.new files (effects ++ on_names stmt.now ∷ [])) }
     ensures refused { OnErr result (db.new ≡ db.old) }
 {
     one_statement_more();
@@ -102,7 +104,7 @@ fn keep<H: Threads + Sync, G: Gate + Sync>(
     requires least { 1 ≤ workers }
     requires most { workers ≤ max_workers }
     requires fits { IsFit (known_of db.old) (t.Keep name.now query.now) }
-    ensures world { OnOk result ((statements : List Typed) → IsWorldOf db.old statements → IsWorldOf db.new (statements ++ t.Keep name.now query.now ∷ [])) }
+    ensures world { OnOk result ((files : List (Held Relation)) (effects : List Effect) → IsWorldOf db.old files effects → IsWorldOf db.new files (effects ++ on_names (t.Keep name.now query.now) ∷ [])) }
     ensures refused { OnErr result (db.new ≡ db.old) }
 {
     one_statement_more();

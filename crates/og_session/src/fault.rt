@@ -1,6 +1,8 @@
 //! Faults, their lines and statuses, and what else stops a run.
 ghost use Rattle.std.specs.Prelude.{◌≡◌, Err, IfOk, IfSome, IfNone, string_bytes};
 ghost use Rattle.og_check.specs.declared.refusal.CheckRefusal.TheVariants as checks;
+ghost use Rattle.og_file.specs.declared.refusal.FileRefusal.TheVariants as files;
+ghost use Rattle.og_session.specs.Contents.{in_file};
 ghost use Rattle.og_session.specs.Ends.{status_of};
 ghost use Rattle.og_session.specs.Lines as lines;
 ghost use Rattle.og_session.specs.declared.fault.Fault as declared;
@@ -9,10 +11,12 @@ ghost use Rattle.og_session.specs.declared.fault.Stop.TheVariants as stops;
 use crate::source::SourceRefusal;
 use og_base::NoMemory;
 use og_check::CheckRefusal;
-use og_io::PutRefusal;
+use og_file::FileRefusal;
+use og_io::{FilesRefusal, PutRefusal};
 use og_lex::LexRefusal;
 use og_parse::ParseRefusal;
-use og_value::Kind;
+use og_value::{Kind, Text};
+use og_words::WordsRefusal;
 use std::alloc::Global;
 use thiserror::Error;
 
@@ -61,6 +65,30 @@ pub enum Fault {
         statement: usize,
         refusal: CheckRefusal,
     },
+    /// The name that the statement with that number asks for has no file.
+    #[error("statement {statement}: no file {file:?}")]
+    NoFile {
+        statement: usize,
+        file: Text,
+    },
+    /// The file of the statement with that number does not begin as such a file does.
+    #[error("statement {statement}: no header")]
+    Header {
+        statement: usize,
+    },
+    /// The record with that number, counted from 1, of the file of the statement is not of its form.
+    #[error("statement {statement}: record {number}")]
+    Record {
+        statement: usize,
+        number: u64,
+    },
+    /// The file of the statement says another number of rows than it has.
+    #[error("statement {statement}: said {said}, found {found}")]
+    RowCount {
+        statement: usize,
+        said: u64,
+        found: u64,
+    },
 }
 
 impl Fault {
@@ -82,6 +110,16 @@ impl Fault {
             }
             Fault::Literal { statement } => numbered(alloc, "fault literal statement ", *statement),
             Fault::Check { statement, refusal } => check_line(alloc, *statement, refusal),
+            Fault::NoFile { statement, file } => {
+                line_with(alloc, "fault no file statement ", *statement, file.as_str())
+            }
+            Fault::Header { statement } => numbered(alloc, "fault header statement ", *statement),
+            Fault::Record { statement, number } => record_line(alloc, *statement, *number),
+            Fault::RowCount {
+                statement,
+                said,
+                found,
+            } => rows_line(alloc, *statement, *said, *found),
         }
     }
 
@@ -92,6 +130,10 @@ impl Fault {
         match self {
             Fault::Words => 2,
             Fault::Check { .. } => 4,
+            Fault::NoFile { .. }
+            | Fault::Header { .. }
+            | Fault::Record { .. }
+            | Fault::RowCount { .. } => 5,
             _ => 3,
         }
     }
@@ -206,6 +248,24 @@ fn many_line(
     Ok(line)
 }
 
+// The line where a record of a file is not of its form.
+fn record_line(alloc: Global, statement: usize, number: u64) -> Result<String, NoMemory>
+    ensures { IfOk result (λ line. string_bytes line ≡ lines.file_line statement (in_file (files.Cell number))) }
+{
+    let line = format!(in alloc; "fault record {number} statement {statement}\n")?;
+    Ok(line)
+}
+
+// The line where a file says another number of rows than it has.
+fn rows_line(alloc: Global, statement: usize, said: u64, found: u64) -> Result<String, NoMemory>
+    ensures { IfOk result (λ line. string_bytes line ≡ lines.file_line statement (in_file (files.RowCount said found))) }
+{
+    let line = format!(in alloc;
+        "fault row count statement {statement}: said {said} found {found}\n"
+    )?;
+    Ok(line)
+}
+
 // The word of a kind.
 fn kind_word(kind: Kind) -> &'static str
     ensures { result.now ≡ lines.kind_word kind }
@@ -227,6 +287,9 @@ pub enum Stop {
     /// The source failed.
     #[error("the source failed")]
     ReadFault,
+    /// The files failed.
+    #[error("the files failed")]
+    FileFault,
     /// The sink failed.
     #[error("the sink failed")]
     WriteFault,
@@ -302,8 +365,52 @@ impl From<ParseRefusal> for Stop {
     }
 }
 
+impl From<WordsRefusal> for Stop {
+    ghost use Rattle.og_session.specs.Stops.{stop_of_words};
+
+    ghost from_gives = { λ refusal stop. stop ≡ stop_of_words refusal };
+
+    fn from(refusal: WordsRefusal) -> Stop {
+        match refusal {
+            WordsRefusal::NoCommand => Stop::Fault(Fault::Words),
+            WordsRefusal::NoMemory => Stop::NoMemory,
+        }
+    }
+}
+
+impl From<FilesRefusal> for Stop {
+    ghost use Rattle.og_session.specs.Stops.{stop_of_files};
+
+    ghost from_gives = { λ refusal stop. stop ≡ stop_of_files refusal };
+
+    fn from(refusal: FilesRefusal) -> Stop {
+        match refusal {
+            FilesRefusal::Failed => Stop::FileFault,
+            FilesRefusal::NoMemory => Stop::NoMemory,
+        }
+    }
+}
+
 impl Stop {
-    ghost use Rattle.og_session.specs.Stops.{stop_of_check};
+    ghost use Rattle.og_session.specs.Stops.{stop_of_bytes, stop_of_check};
+
+    /// What a fault of the bytes of a file makes of a run, at the statement with that number, counted from 1.
+    pub fn of_bytes(statement: usize, refusal: FileRefusal) -> Stop
+        ensures { result ≡ stop_of_bytes statement refusal }
+    {
+        match refusal {
+            FileRefusal::Header => Stop::Fault(Fault::Header { statement }),
+            FileRefusal::Cell { number } => Stop::Fault(Fault::Record { statement, number }),
+            FileRefusal::RowCount { said, found } => {
+                Stop::Fault(Fault::RowCount {
+                    statement,
+                    said,
+                    found,
+                })
+            }
+            FileRefusal::NoMemory => Stop::NoMemory,
+        }
+    }
 
     /// What a refusal of the checks of the statement with that number, counted from 1, makes of a run.
     pub fn of_check(statement: usize, refusal: CheckRefusal) -> Stop
@@ -335,6 +442,7 @@ pub fn status_of(end: &Result<(), Stop>) -> u8
         Ok(()) => 0,
         Err(Stop::Fault(fault)) => fault.status(),
         Err(Stop::ReadFault) => 6,
+        Err(Stop::FileFault) => 7,
         Err(Stop::WriteFault) => 8,
         Err(Stop::NoMemory) => 9,
     }

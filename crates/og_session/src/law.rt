@@ -1,18 +1,70 @@
 //! What holds of the definitions themselves.
-ghost use Rattle.std.specs.Prelude.{◌≡◌, List, ℕ};
-ghost use Rattle.og_session.specs.Runs.{Run, IsDefinedRun};
+ghost use Rattle.std.specs.Prelude.{◌≡◌, [], List, ℕ};
+ghost use Rattle.og_syntax.specs.declared.tree.Stmt.{Stmt};
+ghost use Rattle.og_words.specs.Grammar.{IsCommand};
+ghost use Rattle.og_words.specs.declared.command.Command as commands;
+ghost use Rattle.og_io.specs.Folders.{Folder};
+ghost use Rattle.og_session.specs.Contents.{AreContents, Contents};
+ghost use Rattle.og_session.specs.Lines.{words_line};
+ghost use Rattle.og_session.specs.Runs.{IsDefinedRun, IsNoCommand, IsRun, IsScript, IsScriptFault, IsScriptOf, Run, refused, run_from};
 
+use og_file::{
+    each_saved_file_or_fault, each_table_file_or_fault, no_fault_of_a_saved_file,
+    no_fault_of_a_table_file, one_fault_of_a_saved_file, one_fault_of_a_table_file, one_saved_file,
+    one_table_file,
+};
 use og_lex::{one_list_a_script, tokens_or_a_fault};
 use og_parse::{one_tree, tree_or_fault};
+use og_words::{command_or_none, one_command};
 
-/// Any words and the bytes of any source have a defined run, and one alone. So what `run` promises is never
-/// promised of nothing. It has nothing to do: it is called for this contract.
+/// Any words, the bytes of any source and any files have a defined run, and one alone. So what `run` promises
+/// is never promised of nothing. It has nothing to do: it is called for this contract.
 pub fn one_defined_run()
-    ensures some { (words : List (List ℕ)) (source : List ℕ) → (run : Run) × IsDefinedRun words source run }
-    ensures one { (words : List (List ℕ)) (source : List ℕ) (first second : Run) → IsDefinedRun words source first → IsDefinedRun words source second → first ≡ second }
+    ensures some { (words : List (List ℕ)) (source : List ℕ) (start : Folder) → (run : Run) × IsDefinedRun words source start run }
+    ensures one { (words : List (List ℕ)) (source : List ℕ) (start : Folder) (first second : Run) → IsDefinedRun words source start first → IsDefinedRun words source start second → first ≡ second }
 {
     one_list_a_script();
     tokens_or_a_fault();
     one_tree();
     tree_or_fault();
+    one_command();
+    command_or_none();
+    one_content();
+    some_content();
+}
+
+/// Which run is the defined one: of words that are no command, of a source that is no script, and of a script.
+pub fn defined_runs()
+    ensures no_command { (words : List (List ℕ)) (source : List ℕ) (start : Folder) (run : Run) → IsNoCommand words → IsDefinedRun words source start run → run ≡ refused words_line 2 }
+    ensures no_script { (words : List (List ℕ)) (source line : List ℕ) (start : Folder) (run : Run) → IsRun words → IsScriptFault source line → IsDefinedRun words source start run → run ≡ refused line 3 }
+    ensures script { (words : List (List ℕ)) (source : List ℕ) (start : Folder) (run : Run) (command : commands.Command) (stmts : List Stmt) → IsCommand words command → IsScriptOf command source stmts → IsDefinedRun words source start run →
+        (contents : Contents) × AreContents start contents × (run ≡ run_from contents 1 [] stmts) }
+    ensures no_fault { (source line : List ℕ) (stmts : List Stmt) → IsScript source stmts → IsScriptFault source line → ⊥ }
+    ensures command { (words : List (List ℕ)) (a b : commands.Command) → IsCommand words a → IsCommand words b → a ≡ b }
+{
+    one_list_a_script();
+    tokens_or_a_fault();
+    one_tree();
+    tree_or_fault();
+    one_command();
+}
+
+/// Any files hold something.
+fn some_content()
+    ensures { (start : Folder) → (contents : Contents) × AreContents start contents }
+{
+    each_saved_file_or_fault();
+    each_table_file_or_fault();
+}
+
+/// And they hold one thing alone.
+fn one_content()
+    ensures { (start : Folder) (a b : Contents) → AreContents start a → AreContents start b → a ≡ b }
+{
+    one_saved_file();
+    one_table_file();
+    no_fault_of_a_saved_file();
+    no_fault_of_a_table_file();
+    one_fault_of_a_saved_file();
+    one_fault_of_a_table_file();
 }

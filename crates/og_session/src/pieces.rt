@@ -6,8 +6,11 @@ ghost use Rattle.og_io.specs.declared.sink.PutRefusal.{PutRefusal};
 ghost use Rattle.og_query.specs.Fits.{IsFit, IsFitQuery, Schemas, schemas_of};
 ghost use Rattle.og_query.specs.declared.typed.Typed.{Typed};
 ghost use Rattle.og_query.specs.declared.typed.Typed.TheVariants as t;
-ghost use Rattle.og_db.specs.Held.{known_of};
+ghost use Rattle.og_db.specs.Held.{Held, known_of};
+ghost use Rattle.og_db.specs.Database.{Relation};
+ghost use Rattle.og_db.specs.Effects.{Effect, on_names};
 ghost use Rattle.og_db.specs.Runs.{IsWorldOf};
+ghost use Rattle.og_session.specs.Counts.{IsFaultCount, is_unput};
 ghost use Rattle.og_session.specs.Output.{piece_of};
 ghost use Rattle.og_session.specs.Puts.{IsPut};
 
@@ -17,7 +20,7 @@ use crate::records::names_text;
 use og_base::{NoMemory, RefDay};
 use og_db::{Db, found_names};
 use og_io::{PutRefusal, Sink};
-use og_par::OpenGate;
+use og_par::Gate;
 use og_plan::{fitting_queries, plan_lines, plan_of};
 use og_query::{Query, Typed};
 use og_rel::Tables;
@@ -27,24 +30,26 @@ use std::thread::Threads;
 
 /// Puts what the statement, which fits, writes: a PRINT the rows on its day, TABLES the names, EXPLAIN
 /// the plan, and any other nothing. Where it is refused, a front of it was put.
-pub fn put_piece<H: Threads + Sync, K: Sink>(
+pub fn put_piece<H: Threads + Sync, K: Sink, G: Gate + Sync>(
     rt: &H,
     alloc: Global,
     stmt: &Typed,
     workers: usize,
+    gate: &G,
     db: &Db,
     out: &mut K,
 ) -> Result<(), PutRefusal>
     requires least { 1 ≤ workers }
     requires most { workers ≤ max_workers }
     requires fits { IsFit (known_of db.now) stmt.now }
-    ensures put { (before : List Typed) → IsWorldOf db.now before → IsPut (K.written out.old) (K.written out.new) (piece_of before stmt.now) result }
-    ensures later { K.faults out.old ≤ K.faults out.new }
-    ensures failed { result ≡ Err PutRefusal.Failed → Rose (K.faults out.old) (K.faults out.new) }
+    ensures put { (files : List (Held Relation)) (before : List Effect) → IsWorldOf db.now files before → IsPut (K.written out.old) (K.written out.new) (piece_of before (on_names stmt.now)) result }
+    ensures counted { IsFaultCount (is_unput result) (K.faults out.old) (K.faults out.new) }
 {
     match stmt {
-        Typed::PrintName { name, day } => put_name(rt, alloc, name, *day, workers, db, out),
-        Typed::PrintQuery { query, day } => put_query(rt, alloc, query, *day, workers, db, out),
+        Typed::PrintName { name, day } => put_name(rt, alloc, name, *day, workers, gate, db, out),
+        Typed::PrintQuery { query, day } => put_query(
+            rt, alloc, query, *day, workers, gate, db, out,
+        ),
         Typed::Tables => put(tables_piece(alloc, db)?.as_slice(), out),
         Typed::Explain { query } => put_plan(alloc, query, out),
         _ => Ok(()),
@@ -52,20 +57,20 @@ pub fn put_piece<H: Threads + Sync, K: Sink>(
 }
 
 // Puts the rows of a name on a day.
-fn put_name<H: Threads + Sync, K: Sink>(
+fn put_name<H: Threads + Sync, K: Sink, G: Gate + Sync>(
     rt: &H,
     alloc: Global,
     name: &Name,
     day: RefDay,
     workers: usize,
+    gate: &G,
     db: &Db,
     out: &mut K,
 ) -> Result<(), PutRefusal>
     requires least { 1 ≤ workers }
     requires most { workers ≤ max_workers }
-    ensures put { (before : List Typed) → IsWorldOf db.now before → IsPut (K.written out.old) (K.written out.new) (piece_of before (t.PrintName name.now day)) result }
-    ensures later { K.faults out.old ≤ K.faults out.new }
-    ensures failed { result ≡ Err PutRefusal.Failed → Rose (K.faults out.old) (K.faults out.new) }
+    ensures put { (files : List (Held Relation)) (before : List Effect) → IsWorldOf db.now files before → IsPut (K.written out.old) (K.written out.new) (piece_of before (on_names (t.PrintName name.now day))) result }
+    ensures counted { IsFaultCount (is_unput result) (K.faults out.old) (K.faults out.new) }
 {
     order_of_rows();
     found_names();
@@ -77,40 +82,48 @@ fn put_name<H: Threads + Sync, K: Sink>(
     let Some(rel) = db.rel(name.bytes()) else {
         return Ok(());
     };
-    let rows = rel.at_workers(rt, workers, day, &OpenGate)?;
-    put_layout(alloc, schema, rows.as_slice(), out)
+    let rows = rel.at_workers(rt, workers, day, gate)?;
+    put_layout(rt, alloc, workers, gate, schema, rows.as_slice(), out)
 }
 
 // Puts the rows of a query on a day.
-fn put_query<H: Threads + Sync, K: Sink>(
+fn put_query<H: Threads + Sync, K: Sink, G: Gate + Sync>(
     rt: &H,
     alloc: Global,
     query: &Query,
     day: RefDay,
     workers: usize,
+    gate: &G,
     db: &Db,
     out: &mut K,
 ) -> Result<(), PutRefusal>
     requires least { 1 ≤ workers }
     requires most { workers ≤ max_workers }
     requires fits { IsFitQuery (schemas_of (known_of db.now)) query.now }
-    ensures put { (before : List Typed) → IsWorldOf db.now before → IsPut (K.written out.old) (K.written out.new) (piece_of before (t.PrintQuery query.now day)) result }
-    ensures later { K.faults out.old ≤ K.faults out.new }
-    ensures failed { result ≡ Err PutRefusal.Failed → Rose (K.faults out.old) (K.faults out.new) }
+    ensures put { (files : List (Held Relation)) (before : List Effect) → IsWorldOf db.now files before → IsPut (K.written out.old) (K.written out.new) (piece_of before (on_names (t.PrintQuery query.now day))) result }
+    ensures counted { IsFaultCount (is_unput result) (K.faults out.old) (K.faults out.new) }
 {
     order_of_rows();
     found_names();
     db.rows_fit();
     // For its clause: the day is a reference day.
     day.number();
-    let rel = answer(rt, alloc, query, db, workers, &OpenGate)?;
-    let rows = rel.at_workers(rt, workers, day, &OpenGate)?;
-    put_layout(alloc, &query.first.schema, rows.as_slice(), out)
+    let rel = answer(rt, alloc, query, db, workers, gate)?;
+    let rows = rel.at_workers(rt, workers, day, gate)?;
+    put_layout(
+        rt,
+        alloc,
+        workers,
+        gate,
+        &query.first.schema,
+        rows.as_slice(),
+        out,
+    )
 }
 
 // The names.
 fn tables_piece(alloc: Global, db: &Db) -> Result<Vec<u8>, NoMemory>
-    ensures { IfOk result (λ text. (before : List Typed) → IsWorldOf db.now before → text.items ≡ piece_of before t.Tables) }
+    ensures { IfOk result (λ text. (files : List (Held Relation)) (before : List Effect) → IsWorldOf db.now files before → text.items ≡ piece_of before (on_names t.Tables)) }
 {
     names_text(alloc, db)
 }
@@ -119,9 +132,8 @@ fn tables_piece(alloc: Global, db: &Db) -> Result<Vec<u8>, NoMemory>
 // depth.
 fn put_plan<K: Sink>(alloc: Global, query: &Query, out: &mut K) -> Result<(), PutRefusal>
     requires { (schemas : Schemas) × IsFitQuery schemas query.now }
-    ensures put { (before : List Typed) → IsPut (K.written out.old) (K.written out.new) (piece_of before (t.Explain query.now)) result }
-    ensures later { K.faults out.old ≤ K.faults out.new }
-    ensures failed { result ≡ Err PutRefusal.Failed → Rose (K.faults out.old) (K.faults out.new) }
+    ensures put { (before : List Effect) → IsPut (K.written out.old) (K.written out.new) (piece_of before (on_names (t.Explain query.now))) result }
+    ensures counted { IsFaultCount (is_unput result) (K.faults out.old) (K.faults out.new) }
 {
     fitting_queries();
     let plan = plan_of(alloc, query)?;

@@ -3,11 +3,12 @@ ghost use Rattle.std.specs.Prelude.{◌≡◌, ◌++◌, ◌∷◌, [], ℕ, Lis
 ghost use Rattle.csv.specs.Writing.{default_writer, row_text};
 ghost use Rattle.og_value.specs.Cells.{fixed_text};
 ghost use Rattle.og_session.specs.Output.{names_text, records, what_word};
-ghost use Rattle.og_session.specs.Records.{HasText, HasFields};
+ghost use Rattle.og_file.specs.Writers.{HasText, HasFields};
 
 use csv::{Error, Writer, WriterBuilder};
 use og_base::NoMemory;
 use og_db::Db;
+use og_file::text_of;
 use og_value::{Catalog, FixedRow, FixedValue, Name, Schema, What, write_fixed};
 use std::alloc::Global;
 
@@ -45,7 +46,7 @@ pub fn names_text(alloc: Global, db: &Db) -> Result<Vec<u8>, NoMemory>
 fn header_record(alloc: Global, schema: &Schema) -> Result<Vec<u8>, Error>
     ensures { IfOk result (λ v. v.items ≡ records (map (λ column. column.name) schema.now ∷ [])) }
 {
-    let mut writer = WriterBuilder::new().from_writer(Vec::new(alloc));
+    let mut writer = new_writer(alloc);
     write_header(&mut writer, schema)?;
     text_of(writer)
 }
@@ -54,7 +55,7 @@ fn header_record(alloc: Global, schema: &Schema) -> Result<Vec<u8>, Error>
 fn row_records(alloc: Global, rows: &[FixedRow]) -> Result<Vec<u8>, Error>
     ensures { IfOk result (λ v. v.items ≡ records (map (map fixed_text) rows.now)) }
 {
-    let mut writer = WriterBuilder::new().from_writer(Vec::new(alloc));
+    let mut writer = new_writer(alloc);
     let mut cell = Vec::new(alloc);
     'rows: for row in rows {
         write_row(&mut writer, row, &mut cell)?;
@@ -66,7 +67,7 @@ fn row_records(alloc: Global, rows: &[FixedRow]) -> Result<Vec<u8>, Error>
 fn name_records(alloc: Global, db: &Db) -> Result<Vec<u8>, Error>
     ensures { IfOk result (λ v. v.items ≡ names_text db.now) }
 {
-    let mut writer = WriterBuilder::new().from_writer(Vec::new(alloc));
+    let mut writer = new_writer(alloc);
     writer.write_fields(&[b"name", b"what"])?;
     db.names_differ();
     'names: for i in 0..db.len() {
@@ -90,14 +91,13 @@ fn what_word(what: What) -> &'static [u8]
     }
 }
 
-// What was written.
-fn text_of(writer: Writer<Vec<u8>>) -> Result<Vec<u8>, Error>
-    ensures { IfOk result (λ v. (text : List ℕ) → HasText writer text → v.items ≡ text) }
+// A writer that has written no record.
+fn new_writer(alloc: Global) -> Writer<Vec<u8>>
+    ensures { HasText result (records []) }
 {
-    match writer.into_inner() {
-        Ok(text) => Ok(text),
-        Err(e) => Err(e.into_error()),
-    }
+    WriterBuilder::new()
+        .flexible(true)
+        .from_writer(Vec::new(alloc))
 }
 
 // Writes the record of a name and of what it is.

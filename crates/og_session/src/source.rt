@@ -1,6 +1,7 @@
 //! Reads the source to its end.
 ghost use Rattle.std.specs.Prelude.{◌≡◌, ◌≤◌, ℕ, List, Some, Err, IfOk, length};
 ghost use Rattle.og_base.specs.Told.{Rose};
+ghost use Rattle.og_session.specs.Counts.{IsFaultCount, is_unread};
 ghost use Rattle.og_session.specs.Runs.{max_source};
 ghost use Rattle.og_session.specs.Reading.{IsReading};
 
@@ -33,8 +34,7 @@ pub enum SourceRefusal {
 pub fn read_source<S: Source>(alloc: Global, src: &mut S) -> Result<Vec<u8>, SourceRefusal>
     ensures told { (bytes : List ℕ) → S.left src.old ≡ Some bytes → IsReading bytes (S.left src.new) result }
     ensures small { IfOk result (λ v. length v.items ≤ max_source) }
-    ensures later { S.faults src.old ≤ S.faults src.new }
-    ensures failed { result ≡ Err SourceRefusal.Failed → Rose (S.faults src.old) (S.faults src.new) }
+    ensures counted { IsFaultCount (is_unread result) (S.faults src.old) (S.faults src.new) }
 {
     let mut bytes = Vec::new(alloc);
     let mut part = [0u8; PART];

@@ -1,106 +1,149 @@
 //! One statement of a run.
-ghost use Rattle.std.specs.Prelude.{◌≡◌, ◌≤◌, ◌∷◌, ℕ, List, true, Ok, Err, reverse};
+ghost use Rattle.std.specs.Prelude.{◌≡◌, ◌≤◌, ◌∷◌, ℕ, List, true, Option, Ok, reverse};
 ghost use Rattle.std.specs.Io.KnownBytes.{Appends};
-ghost use Rattle.og_base.specs.Told.{Rose};
 ghost use Rattle.og_par.specs.Limits.{max_workers};
+ghost use Rattle.og_io.specs.Folders.{Folder};
 ghost use Rattle.og_syntax.specs.declared.tree.Stmt.{Stmt};
-ghost use Rattle.og_query.specs.declared.typed.Typed.{Typed};
 ghost use Rattle.og_query.specs.Fits.{IsFit};
-ghost use Rattle.og_check.specs.Statements.{checked};
+ghost use Rattle.og_db.specs.Effects.{Effect, on_names};
 ghost use Rattle.og_db.specs.Held.{known_of};
-ghost use Rattle.og_db.specs.Runs.{IsWorldOf, known_after};
-ghost use Rattle.og_db.specs.Statements.{is_built as is_built_typed};
-ghost use Rattle.og_session.specs.Ends.{StepEnds};
+ghost use Rattle.og_db.specs.Statements.{is_of_names};
+ghost use Rattle.og_session.specs.Contents.{AreContents, Contents, effect_of, outcome, taken};
+ghost use Rattle.og_session.specs.Counts.{IsAbsenceCount, IsFaultCount, is_file_fault, is_write_fault};
+ghost use Rattle.og_session.specs.Ends.{IsPutStop, IsStepStop, StepEnds, is_built_typed};
+ghost use Rattle.og_session.specs.Headline.{IsStateOf};
 ghost use Rattle.og_session.specs.Runs.{is_built};
-ghost use Rattle.og_session.specs.declared.fault.Stop.{Stop};
 
 use crate::execute::execute;
 use crate::fault::Stop;
+use crate::files::{import, open, save};
 use crate::pieces::put_piece;
 use og_check::{check_owned, checked_fits};
 use og_db::{Db, known_names};
-use og_io::Sink;
-use og_par::OpenGate;
+use og_io::{Files, Sink};
+use og_par::Gate;
 use og_query::Typed;
 use og_syntax::Stmt;
 use std::alloc::Global;
 use std::thread::Threads;
 
 /// Takes the last of the statements that are left, in turned order, which has that number, counted from 1,
-/// and is built; checks it, writes what it prints, and carries it out. Where it is stopped the database is
-/// as it was, and a front of what it prints was written.
-pub fn step<H: Threads + Sync, K: Sink>(
+/// and is built; checks it, writes what it prints, and carries it out. Where it is stopped the database and
+/// the files are as they were, but for a file that was to be written where the files failed, and a front of
+/// what it prints was written.
+pub fn step<H: Threads + Sync, K: Sink, F: Files, G: Gate + Sync>(
     rt: &H,
     alloc: Global,
     number: usize,
     left: &mut Vec<Stmt>,
     workers: usize,
     out: &mut K,
+    files: &mut F,
     db: &mut Db,
+    gate: &G,
 ) -> Result<(), Stop>
     requires least { 1 ≤ workers }
     requires most { workers ≤ max_workers }
     requires next { (stmt : Stmt) × (rest : List Stmt) × (reverse left.old.items ≡ stmt ∷ rest) × (is_built stmt ≡ true) }
-    ensures ends { (stmt : Stmt) (rest : List Stmt) → reverse left.old.items ≡ stmt ∷ rest → (before : List Typed) → IsWorldOf db.old before →
-        (text : List ℕ) × Appends (K.written out.old) (K.written out.new) text × StepEnds number before stmt db.new text result }
+    ensures ends { (stmt : Stmt) (rest : List Stmt) → reverse left.old.items ≡ stmt ∷ rest → (start : Folder) (contents : Contents) → AreContents start contents →
+        (before : List Effect) → IsStateOf start before db.old (F.folder files.old) →
+        (text : List ℕ) × Appends (K.written out.old) (K.written out.new) text × StepEnds start number before (outcome contents before stmt) db.new (F.folder files.new) text result }
     ensures left { (stmt : Stmt) (rest : List Stmt) → reverse left.old.items ≡ stmt ∷ rest → reverse left.new.items ≡ rest }
-    ensures later { K.faults out.old ≤ K.faults out.new }
-    ensures write_fault { result ≡ Err Stop.WriteFault → Rose (K.faults out.old) (K.faults out.new) }
+    ensures late { IsStepStop result }
+    ensures files { IsFaultCount (is_file_fault result) (F.faults files.old) (F.faults files.new) }
+    ensures writes { IsFaultCount (is_write_fault result) (K.faults out.old) (K.faults out.new) }
+    ensures absences { IsAbsenceCount result (F.absences files.old) (F.absences files.new) }
 {
     let Some(stmt) = left.pop() else {
         unreachable!();
     };
-    carried(rt, alloc, number, stmt, workers, out, db)
+    carried(rt, alloc, number, stmt, workers, out, files, db, gate)
 }
 
 // The same of a statement that was taken.
-fn carried<H: Threads + Sync, K: Sink>(
+fn carried<H: Threads + Sync, K: Sink, F: Files, G: Gate + Sync>(
     rt: &H,
     alloc: Global,
     number: usize,
     stmt: Stmt,
     workers: usize,
     out: &mut K,
+    files: &mut F,
     db: &mut Db,
+    gate: &G,
 ) -> Result<(), Stop>
     requires least { 1 ≤ workers }
     requires most { workers ≤ max_workers }
     requires built { is_built stmt ≡ true }
-    ensures ends { (before : List Typed) → IsWorldOf db.old before →
-        (text : List ℕ) × Appends (K.written out.old) (K.written out.new) text × StepEnds number before stmt db.new text result }
-    ensures later { K.faults out.old ≤ K.faults out.new }
-    ensures write_fault { result ≡ Err Stop.WriteFault → Rose (K.faults out.old) (K.faults out.new) }
+    ensures ends { (start : Folder) (contents : Contents) → AreContents start contents → (before : List Effect) → IsStateOf start before db.old (F.folder files.old) →
+        (text : List ℕ) × Appends (K.written out.old) (K.written out.new) text × StepEnds start number before (outcome contents before stmt) db.new (F.folder files.new) text result }
+    ensures late { IsStepStop result }
+    ensures files { IsFaultCount (is_file_fault result) (F.faults files.old) (F.faults files.new) }
+    ensures writes { IsFaultCount (is_write_fault result) (K.faults out.old) (K.faults out.new) }
+    ensures absences { IsAbsenceCount result (F.absences files.old) (F.absences files.new) }
 {
     known_names();
     checked_fits();
     match check_owned(alloc, stmt, db) {
-        Ok(typed) => done(rt, alloc, typed, workers, out, db),
+        Ok(typed) => done(rt, alloc, number, typed, workers, out, files, db, gate),
         Err(refusal) => Err(Stop::of_check(number, refusal)),
     }
 }
 
-// Writes what a statement prints that passed its checks, and carries it out.
-fn done<H: Threads + Sync, K: Sink>(
+// Carries out a statement that passed its checks, and writes what it prints.
+fn done<H: Threads + Sync, K: Sink, F: Files, G: Gate + Sync>(
+    rt: &H,
+    alloc: Global,
+    number: usize,
+    typed: Typed,
+    workers: usize,
+    out: &mut K,
+    files: &mut F,
+    db: &mut Db,
+    gate: &G,
+) -> Result<(), Stop>
+    requires least { 1 ≤ workers }
+    requires most { workers ≤ max_workers }
+    requires built { is_built_typed typed ≡ true }
+    requires fits { IsFit (known_of db.old) typed }
+    ensures ends { (start : Folder) (contents : Contents) → AreContents start contents → (before : List Effect) → IsStateOf start before db.old (F.folder files.old) →
+        (text : List ℕ) × Appends (K.written out.old) (K.written out.new) text × StepEnds start number before (taken (effect_of contents before typed)) db.new (F.folder files.new) text result }
+    ensures late { IsStepStop result }
+    ensures files { IsFaultCount (is_file_fault result) (F.faults files.old) (F.faults files.new) }
+    ensures writes { IsFaultCount (is_write_fault result) (K.faults out.old) (K.faults out.new) }
+    ensures absences { IsAbsenceCount result (F.absences files.old) (F.absences files.new) }
+{
+    match typed {
+        Typed::Save { name, file } => save(alloc, &name, &file, files, db),
+        Typed::OpenFile { name, file } => open(alloc, number, name, file, files, db),
+        Typed::ImportFile { name, file } => import(alloc, number, &name, file, files, db),
+        other => on_names(rt, alloc, other, workers, out, db, gate),
+    }
+}
+
+// Writes what a statement prints that acts on names alone, and carries it out.
+fn on_names<H: Threads + Sync, K: Sink, G: Gate + Sync>(
     rt: &H,
     alloc: Global,
     typed: Typed,
     workers: usize,
     out: &mut K,
     db: &mut Db,
+    gate: &G,
 ) -> Result<(), Stop>
     requires least { 1 ≤ workers }
     requires most { workers ≤ max_workers }
-    requires built { is_built_typed typed ≡ true }
+    requires names { is_of_names typed ≡ true }
     requires fits { IsFit (known_of db.old) typed }
-    ensures ends { (number : ℕ) (stmt : Stmt) (before : List Typed) → IsWorldOf db.old before → checked (known_after before) stmt ≡ Ok typed →
-        (text : List ℕ) × Appends (K.written out.old) (K.written out.new) text × StepEnds number before stmt db.new text result }
-    ensures later { K.faults out.old ≤ K.faults out.new }
-    ensures write_fault { result ≡ Err Stop.WriteFault → Rose (K.faults out.old) (K.faults out.new) }
+    ensures ends { (start : Folder) (n : ℕ) (before : List Effect) (folder : Option Folder) → IsStateOf start before db.old folder →
+        (text : List ℕ) × Appends (K.written out.old) (K.written out.new) text × StepEnds start n before (Ok (on_names typed)) db.new folder text result }
+    ensures stops { IsPutStop result }
+    ensures writes { IsFaultCount (is_write_fault result) (K.faults out.old) (K.faults out.new) }
 {
-    if let Err(refusal) = put_piece(rt, alloc, &typed, workers, db, out) {
+    if let Err(refusal) = put_piece(rt, alloc, &typed, workers, gate, db, out) {
         drop(typed);
         return Err(Stop::from(refusal));
     }
-    execute(rt, alloc, typed, workers, &OpenGate, db)?;
+    execute(rt, alloc, typed, workers, gate, db)?;
     Ok(())
 }

@@ -1,4 +1,5 @@
 //! A case, and a setup with which cases may begin.
+use crate::case_file::{CaseFile, add_copies};
 use crate::refusal::Refusal;
 use std::alloc::Global;
 
@@ -15,10 +16,12 @@ pub struct Case {
     pub status: u8,
     /// The script as it is printed; no bytes where the case does not say.
     pub printed: Vec<u8>,
+    /// The files that are there before the run or are named afterwards. Each name stands once.
+    pub files: Vec<CaseFile>,
 }
 
 impl Case {
-    /// A case with the word `run`, without a script, that writes nothing and ends with status 0.
+    /// A case with the word `run`, without a script and files, that writes nothing and ends with status 0.
     pub fn new(alloc: Global, file: &str, line: usize, name: &str) -> Result<Case, Refusal> {
         let mut words = Vec::with_capacity(alloc, 1)?;
         words.push(String::from_str(alloc, "run")?)?;
@@ -30,22 +33,50 @@ impl Case {
             output: Vec::new(alloc),
             status: 0,
             printed: Vec::new(alloc),
+            files: Vec::new(alloc),
         })
+    }
+
+    /// Begins the script with that of the setup, and gives the case its files.
+    pub fn begin_with(&mut self, alloc: Global, setup: &Setup) -> Result<(), Refusal> {
+        self.script.extend_from_slice(setup.script.as_slice())?;
+        add_copies(alloc, setup.files.as_slice(), &mut self.files)
+    }
+
+    /// Whether the first word is that of a command with a script of its own, so that there is no source.
+    pub fn has_own_script(&self) -> bool {
+        let Some(first) = self.words.first() else {
+            return false;
+        };
+        first.as_str() == "at" || first.as_str() == "load"
+    }
+
+    /// Whether the words leave the number of workers open: `run` alone, or `load` and one word.
+    pub fn leaves_workers(&self) -> bool {
+        let Some(first) = self.words.first() else {
+            return false;
+        };
+        match first.as_str() {
+            "run" => self.words.len() == 1,
+            "load" => self.words.len() == 2,
+            _ => false,
+        }
     }
 }
 
-/// A script with which cases may begin.
+/// A script and files with which cases may begin.
 #[derive(Drop)]
 pub struct Setup {
     pub name: String,
     pub script: Vec<u8>,
+    pub files: Vec<CaseFile>,
 }
 
-/// The script of the setup with that name, if there is one.
-pub fn script_of<'a>(setups: &'a [Setup], name: &str) -> Option<&'a [u8]> {
+/// The setup with that name, if there is one.
+pub fn setup_of<'a>(setups: &'a [Setup], name: &str) -> Option<&'a Setup> {
     for setup in setups {
         if setup.name.as_str() == name {
-            return Some(setup.script.as_slice());
+            return Some(setup);
         }
     }
     None

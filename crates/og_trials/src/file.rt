@@ -1,6 +1,7 @@
 //! Files of cases, line by line.
-use crate::case::{Case, Setup, script_of};
-use crate::piece::{append, append_turns};
+use crate::case::{Case, Setup, setup_of};
+use crate::case_file::{After, CaseFile, name_last};
+use crate::line::{Piece, Sign, add_piece, file_name_of, status_of, words_of};
 use crate::refusal::Refusal;
 use std::alloc::Global;
 
@@ -11,6 +12,18 @@ pub struct Book {
     pub cases: Vec<Case>,
     // Whether the last of what began is a setup.
     in_setup: bool,
+    content: Content,
+}
+
+// What lines of a file's content add to: the last file of the last case or setup.
+#[derive(Clone, Copy)]
+enum Content {
+    // To nothing: no content is said here.
+    None,
+    // To its bytes before the run.
+    Before,
+    // To its bytes after the run.
+    After,
 }
 
 /// A line that was refused, counted from 1, and why.
@@ -27,6 +40,7 @@ impl Book {
             setups: Vec::new(alloc),
             cases: Vec::new(alloc),
             in_setup: false,
+            content: Content::None,
         }
     }
 
@@ -57,20 +71,34 @@ impl Book {
             return self.add_text(alloc, line, "");
         };
         match head {
-            "case:" => {
-                self.in_setup = false;
-                self.cases.push(Case::new(alloc, file, number, text)?)?;
-                Ok(())
-            }
-            "setup:" => {
-                self.in_setup = true;
-                let name = String::from_str(alloc, text)?;
-                let script = Vec::new(alloc);
-                self.setups.push(Setup { name, script })?;
-                Ok(())
-            }
+            "case:" => self.begin_case(alloc, file, number, text),
+            "setup:" => self.begin_setup(alloc, text),
             _ => self.add_text(alloc, head, text),
         }
+    }
+
+    fn begin_case(
+        &mut self,
+        alloc: Global,
+        file: &str,
+        number: usize,
+        name: &str,
+    ) -> Result<(), Refusal> {
+        self.in_setup = false;
+        self.content = Content::None;
+        self.cases.push(Case::new(alloc, file, number, name)?)?;
+        Ok(())
+    }
+
+    fn begin_setup(&mut self, alloc: Global, name: &str) -> Result<(), Refusal> {
+        self.in_setup = true;
+        self.content = Content::None;
+        self.setups.push(Setup {
+            name: String::from_str(alloc, name)?,
+            script: Vec::new(alloc),
+            files: Vec::new(alloc),
+        })?;
+        Ok(())
     }
 
     // Adds a line to the case or the setup that began last.
@@ -82,20 +110,16 @@ impl Book {
             return Err(Refusal::NotALine);
         };
         match head {
-            "use:" => match script_of(self.setups.as_slice(), text) {
-                Some(script) => case.script.extend_from_slice(script)?,
+            "use:" => match setup_of(self.setups.as_slice(), text) {
+                Some(setup) => case.begin_with(alloc, setup)?,
                 None => return Err(Refusal::NoSetup),
             },
             "words:" => case.words = words_of(alloc, text)?,
             "status:" => case.status = status_of(text)?,
-            _ => {
-                let piece = Piece::of(head, text)?;
-                match piece.sign {
-                    Sign::Output => add_piece(alloc, &piece, &mut case.output)?,
-                    Sign::Printed => add_piece(alloc, &piece, &mut case.printed)?,
-                    _ => add_piece(alloc, &piece, &mut case.script)?,
-                }
+            "file:" | "left:" | "saved:" => {
+                self.content = add_name(alloc, head, text, &mut case.files)?
             }
+            _ => add_to_case(alloc, &Piece::of(head, text)?, self.content, &mut case)?,
         }
         self.cases.push(case)?;
         Ok(())
@@ -105,100 +129,76 @@ impl Book {
         let Some(mut setup) = self.setups.pop() else {
             return Err(Refusal::NotALine);
         };
-        let piece = Piece::of(head, text)?;
-        match piece.sign {
-            Sign::Output | Sign::Printed => return Err(Refusal::NotALine),
-            _ => add_piece(alloc, &piece, &mut setup.script)?,
+        if head == "file:" {
+            self.content = add_name(alloc, head, text, &mut setup.files)?;
+        } else {
+            let piece = Piece::of(head, text)?;
+            match piece.sign {
+                Sign::Output | Sign::Printed => return Err(Refusal::NotALine),
+                Sign::Line | Sign::Part => add_piece(alloc, &piece, &mut setup.script)?,
+                _ => add_content(alloc, &piece, self.content, &mut setup.files)?,
+            }
         }
         self.setups.push(setup)?;
         Ok(())
     }
 }
 
-// What the sign of a piece says of it.
-#[derive(Clone, Copy)]
-enum Sign {
-    Line,
-    Part,
-    Output,
-    Printed,
-}
-
-// A piece of a script, of an output or of a printed script. It stands once where no number of turns is said.
-#[derive(Clone, Copy)]
-struct Piece<'a> {
-    sign: Sign,
-    turns: Option<usize>,
-    text: &'a str,
-}
-
-impl Piece<'_> {
-    // The piece of the line that begins with the head.
-    fn of<'a>(head: &'a str, text: &'a str) -> Result<Piece<'a>, Refusal> {
-        match head.parse::<usize>() {
-            Ok(turns) => {
-                let (sign, text) = text.split_once(' ').unwrap_or((text, ""));
-                Ok(Piece {
-                    sign: sign_of(sign)?,
-                    turns: Some(turns),
-                    text,
-                })
-            }
-            Err(_) => Ok(Piece {
-                sign: sign_of(head)?,
-                turns: None,
-                text,
-            }),
-        }
+// Adds a piece to what its sign says of the case.
+fn add_to_case(
+    alloc: Global,
+    piece: &Piece<'_>,
+    content: Content,
+    case: &mut Case,
+) -> Result<(), Refusal> {
+    match piece.sign {
+        Sign::Output => add_piece(alloc, piece, &mut case.output),
+        Sign::Printed => add_piece(alloc, piece, &mut case.printed),
+        Sign::Line | Sign::Part => add_piece(alloc, piece, &mut case.script),
+        _ => add_content(alloc, piece, content, &mut case.files),
     }
 }
 
-fn sign_of(text: &str) -> Result<Sign, Refusal> {
-    match text {
-        "|" => Ok(Sign::Line),
-        "+" => Ok(Sign::Part),
-        ">" => Ok(Sign::Output),
-        "=" => Ok(Sign::Printed),
-        _ => Err(Refusal::NotALine),
-    }
-}
-
-fn add_piece(alloc: Global, piece: &Piece<'_>, out: &mut Vec<u8>) -> Result<(), Refusal> {
-    let end = match piece.sign {
-        Sign::Part => b"".as_slice(),
-        _ => b"\n".as_slice(),
+// Says of the file with that name what the head of its line says, and gives what its content adds to.
+fn add_name(
+    alloc: Global,
+    head: &str,
+    text: &str,
+    files: &mut Vec<CaseFile>,
+) -> Result<Content, Refusal> {
+    name_last(file_name_of(alloc, text)?, files)?;
+    let Some(mut file) = files.pop() else {
+        return Err(Refusal::NotALine);
     };
-    match piece.turns {
-        Some(turns) => append_turns(alloc, piece.text, end, turns, out),
-        None => {
-            append(piece.text, out)?;
-            out.extend_from_slice(end)?;
-            Ok(())
-        }
+    let content = match head {
+        "file:" => Content::Before,
+        "left:" => Content::After,
+        _ => Content::None,
+    };
+    match content {
+        Content::Before => file.before = Some(Vec::new(alloc)),
+        Content::After => file.after = After::Just(Vec::new(alloc)),
+        Content::None => file.after = After::Any,
     }
+    files.push(file)?;
+    Ok(content)
 }
 
-// The words of a command line, with one blank between two.
-fn words_of(alloc: Global, text: &str) -> Result<Vec<String>, Refusal> {
-    let mut words = Vec::new(alloc);
-    if text.is_empty() {
-        return Ok(words);
+// Adds a piece to the content of the last file.
+fn add_content(
+    alloc: Global,
+    piece: &Piece<'_>,
+    content: Content,
+    files: &mut Vec<CaseFile>,
+) -> Result<(), Refusal> {
+    let Some(mut file) = files.pop() else {
+        return Err(Refusal::NotALine);
+    };
+    match (content, &mut file.before, &mut file.after) {
+        (Content::Before, Some(bytes), _) => add_piece(alloc, piece, bytes)?,
+        (Content::After, _, After::Just(bytes)) => add_piece(alloc, piece, bytes)?,
+        _ => return Err(Refusal::NotALine),
     }
-    for word in text.split(' ') {
-        let mut bytes = Vec::new(alloc);
-        append(word, &mut bytes)?;
-        let Ok(word) = String::from_utf8(bytes) else {
-            return Err(Refusal::NotALine);
-        };
-        words.push(word)?;
-    }
-    Ok(words)
-}
-
-// The exit status that the text is.
-fn status_of(text: &str) -> Result<u8, Refusal> {
-    match text.parse::<u8>() {
-        Ok(status) => Ok(status),
-        Err(_) => Err(Refusal::NotALine),
-    }
+    files.push(file)?;
+    Ok(())
 }

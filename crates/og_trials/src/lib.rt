@@ -2,14 +2,22 @@
 //!
 //! The crate promises no more than that it is safe and ends. What it finds of a run is a test, and no
 //! proof. `carry_out` reads the files that the words of a program name and runs their cases through the
-//! top call, `run` of og_session, once or in many ways. In many ways it also compares what `print_script`
-//! prints, and has the queries answered by plans with several workers and by the plain evaluator. The
-//! programs og_cases and og_large_cases are this call and their files.
+//! top call, `run` of og_session, once or in many ways: over devices in memory, of which the files note what
+//! is written to them. In many ways it also compares what `print_script` prints, and has the queries answered
+//! by plans with several workers and by the plain evaluator. The programs og_cases and og_large_cases are this
+//! call and their files. A test has two workers of one run meet at a gate.
 #![tactic(auto)]
 
 mod answers;
 mod case;
+mod case_file;
+mod ends;
+mod failing;
 mod file;
+#[cfg(test)]
+mod gates;
+mod line;
+mod noted;
 mod piece;
 mod program;
 mod queries;

@@ -2,6 +2,7 @@
 ghost use Rattle.std.specs.Prelude.{◌≤◌, IfOk};
 
 use crate::case::Case;
+use crate::case_file::{After, CaseFile};
 use crate::refusal::Refusal;
 use crate::trial::Outcome;
 use std::alloc::Global;
@@ -50,7 +51,56 @@ impl Report {
         let wanted = format!(in alloc; "wanted status {} and", case.status)?;
         self.add_side(alloc, wanted.as_str(), case.output.as_slice())?;
         let found = format!(in alloc; "found status {} and", outcome.status)?;
-        self.add_side(alloc, found.as_str(), outcome.written.as_slice())
+        self.add_side(alloc, found.as_str(), outcome.written.as_slice())?;
+        self.add_files(alloc, case, outcome)
+    }
+
+    // Adds the first file that is not as the case wants it after a whole run, and the first that it does not name.
+    fn add_files(&mut self, alloc: Global, case: &Case, outcome: &Outcome) -> Result<(), Refusal> {
+        if let Some(file) = outcome.unwanted_file(case) {
+            let found = outcome.files.file(&file.name);
+            self.add_wanted_file(alloc, file)?;
+            self.add_file(alloc, "found", file.name.as_str(), found)?;
+        }
+        if let Some(name) = outcome.other_file(case) {
+            self.add_file(alloc, "found", name.as_str(), outcome.files.file(name))?;
+        }
+        Ok(())
+    }
+
+    // Adds what the case wants of the file.
+    fn add_wanted_file(&mut self, alloc: Global, file: &CaseFile) -> Result<(), Refusal> {
+        let name = file.name.as_str();
+        match &file.after {
+            After::Same => self.add_file(alloc, "wanted", name, file.before_run()),
+            After::Just(bytes) => self.add_file(alloc, "wanted", name, Some(bytes.as_slice())),
+            After::Any => {
+                let line = format!(in alloc; "  wanted some bytes of file {name}\n")?;
+                self.text.extend_from_slice(line.as_bytes())?;
+                Ok(())
+            }
+        }
+    }
+
+    // Adds the file with that name as it was wanted or found.
+    fn add_file(
+        &mut self,
+        alloc: Global,
+        what: &str,
+        name: &str,
+        bytes: Option<&[u8]>,
+    ) -> Result<(), Refusal> {
+        match bytes {
+            Some(bytes) => {
+                let what = format!(in alloc; "{what} file {name} with")?;
+                self.add_side(alloc, what.as_str(), bytes)
+            }
+            None => {
+                let line = format!(in alloc; "  {what} no bytes of file {name}\n")?;
+                self.text.extend_from_slice(line.as_bytes())?;
+                Ok(())
+            }
+        }
     }
 
     /// Counts a run that gave the second bytes, and adds a text where these are not the first.

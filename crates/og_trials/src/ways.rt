@@ -3,19 +3,17 @@ ghost use Rattle.std.specs.Prelude.{IfOk, IfSome};
 ghost use Rattle.og_print.specs.Printed.{IsPrintable};
 
 use crate::case::Case;
+use crate::failing::{try_files, try_sinks, try_sources};
 use crate::queries::ask_queries;
 use crate::refusal::Refusal;
 use crate::report::Report;
-use crate::trial::{Devices, Outcome, ran};
+use crate::trial::{Outcome, Setting, ran};
 use og_base::NoMemory;
 use og_lex::{LexRefusal, lex};
 use og_parse::{ParseRefusal, Script, parse};
 use og_print::print_script;
 use std::alloc::Global;
 use std::thread::Threads;
-
-// The bytes that a source which fails gives a call.
-const STEP: usize = 24;
 
 /// In which ways each case is run.
 #[derive(Clone, Copy, Debug, PartialEq, Eq)]
@@ -34,107 +32,72 @@ pub fn try_case<H: Threads + Sync + AllocGlobal>(
     report: &mut Report,
 ) -> Result<(), Refusal> {
     report.begin_case();
-    let script = case.script.as_slice();
-    let is_well = try_script(rt, case, script, Devices::WHOLE, "as it stands", report)?;
+    let whole = ran(rt, case, case.script.as_slice(), Setting::WHOLE)?;
+    let is_well = whole.is_wanted(case);
+    report.add(rt.alloc(), case, "as it stands", &whole, is_well)?;
     if ways == Ways::Once || !is_well {
         return Ok(());
     }
-    try_script(rt, case, script, Devices::BYTEWISE, "a byte a call", report)?;
-    try_sinks(rt, case, report)?;
+    try_again(rt, case, &whole, report)
+}
+
+// Runs the case again in each way, where it went well as it stands.
+fn try_again<H: Threads + Sync + AllocGlobal>(
+    rt: &H,
+    case: &Case,
+    whole: &Outcome,
+    report: &mut Report,
+) -> Result<(), Refusal> {
+    if case.leaves_workers() {
+        try_workers(rt, case, report)?;
+    }
+    try_sinks(rt, case, whole, report)?;
+    if case.has_own_script() {
+        return try_files(rt, case, whole, &[], report);
+    }
+    let script = case.script.as_slice();
+    let bytewise = Setting {
+        step: 1,
+        ..Setting::WHOLE
+    };
+    try_script(rt, case, script, bytewise, "a byte a call", report)?;
     try_sources(rt, case, report)?;
     match tree_of(rt.alloc(), script)? {
-        Some(tree) => try_tree(rt, case, &tree, report),
+        Some(tree) => try_tree(rt, case, whole, &tree, report),
         None => try_text(rt.alloc(), case, b"", report),
     }
 }
 
-// Runs the script on devices that do not fail, and gives whether the case wants what came of it.
+// Runs the case with the option of the words for one worker and for more.
+fn try_workers<H: Threads + Sync + AllocGlobal>(
+    rt: &H,
+    case: &Case,
+    report: &mut Report,
+) -> Result<(), Refusal> {
+    for workers in &[1, 2, 64] {
+        let setting = Setting {
+            workers: Some(*workers),
+            ..Setting::WHOLE
+        };
+        let way = format!(in rt.alloc(); "with the words --workers {workers}")?;
+        let script = case.script.as_slice();
+        try_script(rt, case, script, setting, way.as_str(), report)?;
+    }
+    Ok(())
+}
+
+// Runs the script on devices that do not fail.
 fn try_script<H: Threads + Sync + AllocGlobal>(
     rt: &H,
     case: &Case,
     script: &[u8],
-    devices: Devices,
+    setting: Setting,
     way: &str,
     report: &mut Report,
-) -> Result<bool, Refusal> {
-    let outcome = ran(rt, case, script, devices)?;
+) -> Result<(), Refusal> {
+    let outcome = ran(rt, case, script, setting)?;
     let is_well = outcome.is_wanted(case);
-    report.add(rt.alloc(), case, way, &outcome, is_well)?;
-    Ok(is_well)
-}
-
-// Runs the case with the sink failing at each of its calls, until a run makes fewer calls.
-fn try_sinks<H: Threads + Sync + AllocGlobal>(
-    rt: &H,
-    case: &Case,
-    report: &mut Report,
-) -> Result<(), Refusal> {
-    for call in 1..u64::MAX {
-        let devices = Devices {
-            sink_fails: Some(call),
-            ..Devices::WHOLE
-        };
-        let outcome = ran(rt, case, case.script.as_slice(), devices)?;
-        let way = format!(in rt.alloc(); "with call {call} of the sink failing")?;
-        if outcome.sink_calls < call {
-            return report.add(
-                rt.alloc(),
-                case,
-                way.as_str(),
-                &outcome,
-                outcome.is_wanted(case),
-            );
-        }
-        let is_front = case
-            .output
-            .as_slice()
-            .starts_with(outcome.written.as_slice());
-        let is_well = outcome.status == 8 && is_front && outcome.sink_calls == call;
-        report.add(rt.alloc(), case, way.as_str(), &outcome, is_well)?;
-    }
-    Ok(())
-}
-
-// Runs the case with the source failing at each of its calls, until a run makes fewer calls.
-fn try_sources<H: Threads + Sync + AllocGlobal>(
-    rt: &H,
-    case: &Case,
-    report: &mut Report,
-) -> Result<(), Refusal> {
-    for call in 1..u64::MAX {
-        let devices = Devices {
-            step: STEP,
-            source_fails: Some(call),
-            sink_fails: None,
-        };
-        let outcome = ran(rt, case, case.script.as_slice(), devices)?;
-        let way = format!(in rt.alloc(); "with call {call} of the source failing")?;
-        if outcome.source_calls < call {
-            return report.add(
-                rt.alloc(),
-                case,
-                way.as_str(),
-                &outcome,
-                outcome.is_wanted(case),
-            );
-        }
-        report.add(
-            rt.alloc(),
-            case,
-            way.as_str(),
-            &outcome,
-            is_unread(&outcome, call),
-        )?;
-    }
-    Ok(())
-}
-
-// Whether the run ended with the read fault at that call, with nothing written and no further call.
-fn is_unread(outcome: &Outcome, call: u64) -> bool {
-    outcome.status == 6
-        && outcome.written.is_empty()
-        && outcome.source_calls == call
-        && outcome.sink_calls == 0
+    report.add(rt.alloc(), case, way, &outcome, is_well)
 }
 
 // The tree of the script, if it has one.
@@ -153,19 +116,22 @@ fn tree_of(alloc: Global, script: &[u8]) -> Result<Option<Script>, NoMemory>
     }
 }
 
-// Prints the tree of the case, runs what is printed, and asks the queries that it prints anew.
+// Has the files fail, prints the tree of the case, runs what is printed, and asks the queries that it
+// prints anew.
 fn try_tree<H: Threads + Sync + AllocGlobal>(
     rt: &H,
     case: &Case,
+    whole: &Outcome,
     tree: &Script,
     report: &mut Report,
 ) -> Result<(), Refusal>
     requires { IsPrintable tree.now.stmts }
 {
+    try_files(rt, case, whole, tree.stmts.as_slice(), report)?;
     let text = print_script(rt.alloc(), tree)?;
     let text = text.as_slice();
     try_text(rt.alloc(), case, text, report)?;
-    try_script(rt, case, text, Devices::WHOLE, "printed again", report)?;
+    try_script(rt, case, text, Setting::WHOLE, "printed again", report)?;
     ask_queries(rt, case, tree.stmts.as_slice(), report)
 }
 

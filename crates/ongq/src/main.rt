@@ -1,12 +1,15 @@
-//! ongq: runs a script over ongoing dates from standard input.
+//! ongq: runs a command over ongoing dates: the script of standard input, a saved file as of a day, or
+//! the command load.
 #![tactic(auto)]
 
-use og_base::Words;
+ghost use Rattle.std.specs.Prelude.{◌≡◌, ◌++◌, OnOk, drop, map, string_bytes};
+
+use og_base::{NoMemory, Words};
 use og_db::Db;
-use og_io::{StdSink, StdSource};
+use og_io::{FolderFiles, StdSink, StdSource};
 use og_session::run;
 use std::env;
-use std::env::Env;
+use std::env::{Args, Env};
 use std::io::ErrorKind;
 use std::process::ExitCode;
 
@@ -22,8 +25,17 @@ fn main(rt: HostRuntime) -> ExitCode {
         Ok(()) => {
             let mut src = StdSource::new(rt.stdin());
             let mut out = StdSink::new(rt.stdout());
+            let mut files = FolderFiles::new(&rt, rt.alloc());
             let mut db = Db::new(rt.alloc());
-            ExitCode::from(run(&rt, rt.alloc(), &words, &mut src, &mut out, &mut db))
+            ExitCode::from(run(
+                &rt,
+                rt.alloc(),
+                &words,
+                &mut src,
+                &mut out,
+                &mut files,
+                &mut db,
+            ))
         }
         Err(status) => ExitCode::from(status),
     }
@@ -36,10 +48,20 @@ fn read_words(rt: &(impl Env + AllocGlobal), words: &mut Words) -> Result<(), u8
         Err(error) if error.kind() == ErrorKind::OutOfMemory => return Err(NO_MEMORY),
         Err(_) => return Err(NO_WORDS),
     };
-    for word in args.skip(1) {
-        let Ok(()) = words.add(word.as_str()) else {
-            return Err(NO_MEMORY);
-        };
+    match add_words(args, words) {
+        Ok(()) => Ok(()),
+        Err(_) => Err(NO_MEMORY),
+    }
+}
+
+// Adds the arguments after the first, all of them, in order.
+fn add_words(args: Args, words: &mut Words) -> Result<(), NoMemory>
+    ensures { OnOk result (words.new ≡ words.old ++ map string_bytes (drop 1 args.rest.items)) }
+{
+    let mut args = args;
+    args.next();
+    'words: while let Some(word) = args.next() {
+        words.add(word.as_str())?;
     }
     Ok(())
 }

@@ -1,4 +1,5 @@
-use Rattle.og_db.proofs.SizeLemmas.{one_more, within-refl}
+use Rattle.og_db.proofs.EffectLemmas.{one_more}
+use Rattle.og_db.proofs.SizeLemmas.{within-refl}
 use Rattle.og_db.proofs.laws.one_statement_more.Goals as goal
 
 pub returns-clause-done : goal.returns-clause-done

@@ -1,25 +1,81 @@
-use Rattle.std.proofs.Common.{rules, ◌∙◌, Err}
+use Rattle.std.proofs.Common.{[], Err, ap, sym, subst}
+use Rattle.std.proofs.KnownBytes.{Appends-nil}
 use Rattle.std.proofs.lemmas.Result.{err_from_is_err_and}
-use Rattle.og_session.specs.Runs.{IsRun}
-use Rattle.og_session.specs.declared.fault.Fault.TheVariants as faults
-use Rattle.og_session.specs.declared.fault.Stop.TheVariants as stops
-use Rattle.og_session.proofs.EndLemmas.{ends_of, nothing_done, words_stopped, source_stopped}
+use Rattle.og_words.specs.declared.command.Command.TheVariants as commands
+use Rattle.og_session.specs.Ends.{EndsUnreported}
+use Rattle.og_session.specs.Runs.{IsScriptOf, run_from}
+use Rattle.og_session.proofs.EndLemmas.{end_late, end_script, end_words, late_read, run_end, run_words, script_end, words_end}
+use Rattle.og_session.proofs.StateLemmas.{state_at_start}
 use Rattle.og_session.proofs.carry.carry_out.Goals as goal
 
-pub returns-then-not-is_run-clause-told : goal.returns-then-not-is_run-clause-told
-returns-then-not-is_run-clause-told g c source told =
-    let other : ¬ IsRun c.args.words.now = search rules in
-    nothing_done c.args.words.now source c.args.db.now _ (Err (stops.Fault faults.Words)) c.requires.empty (words_stopped c.no_statements.ensures c.args.words.now source other)
-
-pub returns-in_err-bytes-clause-told : goal.returns-in_err-bytes-clause-told
-returns-in_err-bytes-clause-told g c source told =
-    let run : IsRun c.args.words.now = c.is_run.ensures.0 c.if-not-is_run.false in
+pub returns-in_err-command-clause-told : goal.returns-in_err-command-clause-told
+returns-in_err-command-clause-told g c source start run told files defined =
     let p = err_from_is_err_and c.from_residual.result c.from_residual.ensures.1 in
-    nothing_done c.args.words.now source c.args.db.now _ c.from_residual.result c.requires.empty
-    (rw (p.1, p.2) (source_stopped c.no_statements.ensures c.args.words.now source (g.S.Source.left c.read_source.new.src) c.in_err-bytes.field-0.0 run (c.in_err-bytes.ensures.told source (told run))))
+    let folder = g.F.Files.folder c.args.files.now in
+    let state = state_at_start start c.args.db.now folder c.no_statements.ensures c.requires files in (
+      [],
+      Appends-nil _,
+      rw (p.1, p.2) (words_end run start c.args.db.now folder state c.in_err-command.field-0.0
+          (λ e. c.defined_runs.ensures.no_command c.args.words.now source start run (c.in_err-command.ensures.no_command (ap Err e)) defined)),
+    )
+
+pub returns-in_err-command-clause-ended : goal.returns-in_err-command-clause-ended
+returns-in_err-command-clause-ended g c =
+    let p = err_from_is_err_and c.from_residual.result c.from_residual.ensures.1 in
+    rw (p.1, p.2) (end_words c.args.words.now _ c.in_err-command.field-0.0 (λ e. c.in_err-command.ensures.no_command (ap Err e)))
+
+pub returns-in_err-stmts-clause-told : goal.returns-in_err-stmts-clause-told
+returns-in_err-stmts-clause-told g c source start run told files defined =
+    let p = err_from_is_err_and c.from_residual-in_err-stmts.result c.from_residual-in_err-stmts.ensures.1 in
+    let words = c.args.words.now in
+    let command = c.in_ok-command.command in
+    let is = c.in_ok-command.ensures.command in
+    let folder = g.F.Files.folder c.args.files.now in
+    let state = state_at_start start c.args.db.now folder c.no_statements.ensures c.requires files in (
+      [],
+      Appends-nil _,
+      rw (p.1, p.2) (script_end run start c.args.db.now folder state command source c.in_err-stmts.field-0.0 c.in_err-stmts.ensures.stops
+          (c.in_err-stmts.ensures.stopped source (λ r. told (run_words words command is r)))
+          (λ line r fault. c.defined_runs.ensures.no_script words source line start run (run_words words command is r) fault defined)),
+    )
+
+pub returns-in_err-stmts-clause-untouched : goal.returns-in_err-stmts-clause-untouched
+returns-in_err-stmts-clause-untouched g c none = c.in_err-stmts.ensures.untouched (λ r. none (run_words c.args.words.now c.in_ok-command.command c.in_ok-command.ensures.command r))
+
+pub returns-in_err-stmts-clause-ended : goal.returns-in_err-stmts-clause-ended
+returns-in_err-stmts-clause-ended g c =
+    let p = err_from_is_err_and c.from_residual-in_err-stmts.result c.from_residual-in_err-stmts.ensures.1 in
+    let is = c.in_ok-command.ensures.command in
+    rw (p.1, p.2) (end_script c.args.words.now _ c.in_ok-command.command is c.in_err-stmts.field-0.0 c.in_err-stmts.ensures.stops
+    (λ source told. c.in_err-stmts.ensures.stopped source (λ r. told (run_words c.args.words.now c.in_ok-command.command is r))))
 
 pub returns-clause-told : goal.returns-clause-told
-returns-clause-told g c source told =
-    let run : IsRun c.args.words.now = c.is_run.ensures.0 c.if-not-is_run.false in
-    let read = c.in_ok-bytes.ensures.told source (told run) in
-    ends_of _ _ source _ _ _ _ (c.as_slice.ensures.value ∙ read.0) (c.run_bytes.ensures.ends c.args.words.now run)
+returns-clause-told g c source start run told files defined =
+    let words = c.args.words.now in
+    let command = c.in_ok-command.command in
+    let is = c.in_ok-command.ensures.command in
+    let stmts = c.in_ok-stmts.stmts in
+    let found = c.defined_runs.ensures.script words source start run command stmts is (c.in_ok-stmts.ensures.script source (λ r. told (run_words words command is r))) defined in
+    let ends = c.run_statements.ensures.ends start found.0 files found.1 in
+    let folder = g.F.Files.folder c.run_statements.new.files in (
+      ends.0,
+      ends.1,
+      subst (λ r. EndsUnreported r start c.run_statements.new.db folder ends.0 c.run_statements.result) (sym found.2)
+          (run_end (run_from found.0 1 [] stmts) start c.run_statements.new.db folder ends.0 c.run_statements.result ends.2),
+    )
+
+pub returns-clause-untouched : goal.returns-clause-untouched
+returns-clause-untouched g c none = c.in_ok-stmts.ensures.untouched (λ r. none (run_words c.args.words.now c.in_ok-command.command c.in_ok-command.ensures.command r))
+
+pub returns-clause-ended : goal.returns-clause-ended
+returns-clause-ended g c =
+    let words = c.args.words.now in
+    let command = c.in_ok-command.command in
+    let is = c.in_ok-command.ensures.command in
+    let stmts = c.in_ok-stmts.stmts in
+    end_late words _ command is c.run_statements.result c.run_statements.ensures.late
+    (λ source line run told fault. c.defined_runs.ensures.no_fault source line stmts
+    (subst (λ k. IsScriptOf k source stmts) (sym (c.defined_runs.ensures.command words (commands.Run run.0) command run.1 is)) (c.in_ok-stmts.ensures.script source (λ r. told))) fault)
+
+pub returns-clause-reads : goal.returns-clause-reads
+returns-clause-reads g c = late_read c.run_statements.result _ _ c.run_statements.ensures.late c.in_ok-stmts.ensures.reads

@@ -1,4 +1,4 @@
-use Rattle.std.proofs.Common.{◌∙◌, ap, sym, subst, ap₂}
+use Rattle.std.proofs.Common.{◌∙◌, OnOk, ap, sym, subst, ap₂}
 use Rattle.std.specs.List.{All}
 use Rattle.og_query.specs.Fits.{IsFit, IsFitAssign}
 use Rattle.og_query.specs.declared.typed.Typed.TheVariants as t
@@ -22,7 +22,7 @@ pub returns-in_default : goal.returns-in_default
 returns-in_default g c =
     let not = c.in_default in
     record {
-      world = only_written c.one_statement_more.ensures.done c.one_statement_more.ensures.same c.args.db.now c.args.stmt.now c.requires.built
+      world = only_written c.one_statement_more.ensures.done c.one_statement_more.ensures.same c.args.db.now c.args.stmt.now c.requires.names
           not.not-Create c.requires.other not.not-Delete not.not-Update not.not-Drop not.not-Keep;
       refused = tt;
     }
@@ -39,4 +39,7 @@ returns-in-Update-clause-world g c =
 pub returns-in-Drop-clause-world : goal.returns-in-Drop-clause-world
 returns-in-Drop-clause-world g c =
     subst (IsOneMore c.args.db.now c.drop_name.new.self) (sym c.in-Drop.is)
-    (c.one_statement_more.ensures.done c.args.db.now c.drop_name.new.self (t.Drop c.in-Drop.name) c.drop_name.ensures.law c.drop_name.ensures.size)
+    (λ files. c.one_statement_more.ensures.done c.args.db.now c.drop_name.new.self files (t.Drop c.in-Drop.name) c.drop_name.ensures.law c.drop_name.ensures.size)
+
+pub returns-in-Keep-clause-world : goal.returns-in-Keep-clause-world
+returns-in-Keep-clause-world g c = subst (λ s. OnOk c.keep.result (IsOneMore c.args.db.now c.keep.new.db s)) (sym c.in-Keep.is) c.keep.ensures.world

@@ -1,21 +1,31 @@
-use Rattle.std.proofs.Common.{sym, subst}
+use Rattle.std.proofs.Common.{◌∙◌, sym, subst}
 use Rattle.std.specs.Io.KnownBytes.{Appends}
 use Rattle.std.proofs.KnownBytes.{Appends-nil}
+use Rattle.og_db.specs.Effects.{on_names}
 use Rattle.og_session.specs.Output.{piece_of}
 use Rattle.og_session.specs.Puts.{IsPut}
 use Rattle.og_session.proofs.PieceLemmas.{others_write_nothing}
 use Rattle.og_session.proofs.pieces.put_piece.Goals as goal
 
 pub returns-in-PrintQuery-clause-put : goal.returns-in-PrintQuery-clause-put
-returns-in-PrintQuery-clause-put g c before world =
-    subst (λ stmt. IsPut (g.K.Sink.written c.args.out.now) (g.K.Sink.written c.put_query.new.out) (piece_of before stmt) c.put_query.result) (sym c.in-PrintQuery.is) (c.put_query.ensures.put before world)
+returns-in-PrintQuery-clause-put g c files before world =
+    subst (λ stmt. IsPut (g.K.Sink.written c.args.out.now) (g.K.Sink.written c.put_query.new.out) (piece_of before (on_names stmt)) c.put_query.result) (sym c.in-PrintQuery.is) (c.put_query.ensures.put files before world)
 
 pub returns-in-Explain-clause-put : goal.returns-in-Explain-clause-put
-returns-in-Explain-clause-put g c before world =
-    subst (λ stmt. IsPut (g.K.Sink.written c.args.out.now) (g.K.Sink.written c.put_plan.new.out) (piece_of before stmt) c.put_plan.result) (sym c.in-Explain.is) (c.put_plan.ensures.put before)
+returns-in-Explain-clause-put g c files before world =
+    subst (λ stmt. IsPut (g.K.Sink.written c.args.out.now) (g.K.Sink.written c.put_plan.new.out) (piece_of before (on_names stmt)) c.put_plan.result) (sym c.in-Explain.is) (c.put_plan.ensures.put before)
 
 pub returns-in_default-clause-put : goal.returns-in_default-clause-put
-returns-in_default-clause-put g c before world =
+returns-in_default-clause-put g c files before world =
     let not = c.in_default in
     let out = g.K.Sink.written c.args.out.now in
     subst (Appends out out) (sym (others_write_nothing before c.args.stmt.now not.not-PrintName not.not-PrintQuery not.not-Tables not.not-Explain)) (Appends-nil out)
+
+pub returns-in-PrintName-clause-put : goal.returns-in-PrintName-clause-put
+returns-in-PrintName-clause-put g c files before world =
+    subst (λ stmt. IsPut (g.K.Sink.written c.args.out.now) (g.K.Sink.written c.put_name.new.out) (piece_of before (on_names stmt)) c.put_name.result) (sym c.in-PrintName.is) (c.put_name.ensures.put files before world)
+
+pub returns-in_ok-tables_piece-in-Tables-clause-put : goal.returns-in_ok-tables_piece-in-Tables-clause-put
+returns-in_ok-tables_piece-in-Tables-clause-put g c files before world =
+    subst (λ stmt. IsPut (g.K.Sink.written c.args.out.now) (g.K.Sink.written c.put.new.out) (piece_of before (on_names stmt)) c.put.result) (sym c.in-Tables.is)
+    (subst (λ t. IsPut (g.K.Sink.written c.args.out.now) (g.K.Sink.written c.put.new.out) t c.put.result) (c.as_slice.ensures.value ∙ c.in_ok-tables_piece-in-Tables.ensures files before world) c.put.ensures.put)

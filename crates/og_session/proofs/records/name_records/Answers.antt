@@ -6,8 +6,9 @@ use Rattle.og_value.specs.declared.kind.What.TheVariants as what
 use Rattle.og_db.specs.Database.{Relation}
 use Rattle.og_db.specs.Held.{Held}
 use Rattle.og_session.specs.Output.{names_text, records, what_word}
-use Rattle.og_session.specs.Records.{HasText}
-use Rattle.og_session.proofs.RecordLemmas.{new_writer, record_written, records-first, records-more, what_at}
+use Rattle.og_file.specs.Writers.{HasText}
+use Rattle.og_file.proofs.WriteLemmas.{record_written}
+use Rattle.og_session.proofs.RecordLemmas.{records-first, records-more, what_at}
 use Rattle.og_session.proofs.records.name_records.Goals as goal
 
 -- the record before those of the names
@@ -20,11 +21,9 @@ any = record { name = []; what = what.Table; columns = []; rows = [] }
 
 pub names-init : goal.names-init
 names-init c =
-    let from = c.from_writer-writer.ensures in
-    let start = new_writer c.from_writer-writer.result c.new-2.result c.new-2.ensures.items from.wtr from.empty (from.cfg ∙ c.new.ensures) from.fields from.wrote in
     let e = c.write_fields.ensures in
-    let written = rw c.in_ok-write_fields.was at (record_written c.write_fields.result c.from_writer-writer.result c.write_fields.new.self head e.bytes e.ended e.clean e.setup) in
-    subst (HasText c.write_fields.new.self) (sym (records-first head)) (written (records []) start)
+    let written = rw c.in_ok-write_fields.was at (record_written c.write_fields.result c.new_writer-writer.result c.write_fields.new.self head e.bytes e.ended e.clean e.setup) in
+    subst (HasText c.write_fields.new.self) (sym (records-first head)) (written (records []) c.new_writer-writer.ensures)
 
 pub names-preserved : goal.names-preserved
 names-preserved c =

@@ -4,14 +4,12 @@ use Rattle.std.proofs.lemmas.Result.{IfOk-weaker}
 use Rattle.csv.specs.Writing.{default_writer, row_text}
 use Rattle.og_value.specs.Cells.{fixed_text}
 use Rattle.og_session.specs.Output.{records}
-use Rattle.og_session.specs.Records.{HasText}
-use Rattle.og_session.proofs.RecordLemmas.{new_writer, records-more}
+use Rattle.og_file.specs.Writers.{HasText}
+use Rattle.og_session.proofs.RecordLemmas.{records-more}
 use Rattle.og_session.proofs.records.row_records.Goals as goal
 
 pub rows-init : goal.rows-init
-rows-init c =
-    let from = c.from_writer-writer.ensures in
-    new_writer c.from_writer-writer.result c.new-2.result c.new-2.ensures.items from.wtr from.empty (from.cfg ∙ c.new.ensures) from.fields from.wrote
+rows-init c = c.new_writer-writer.ensures
 
 pub rows-preserved : goal.rows-preserved
 rows-preserved c =

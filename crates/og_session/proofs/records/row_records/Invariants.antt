@@ -1,7 +1,7 @@
 use Rattle.std.proofs.Common.{take, map}
 use Rattle.og_value.specs.Cells.{fixed_text}
 use Rattle.og_session.specs.Output.{records}
-use Rattle.og_session.specs.Records.{HasText}
+use Rattle.og_file.specs.Writers.{HasText}
 use Rattle.og_session.proofs.records.row_records.Given as goal
 
 abbrev pub invariant-rows : goal.invariant-rows

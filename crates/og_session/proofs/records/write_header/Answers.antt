@@ -1,11 +1,11 @@
 use Rattle.std.proofs.Common.{map, sym, subst, rules}
 use Rattle.std.proofs.lemmas.Result.{on_ok_weaker}
-use Rattle.og_session.specs.Records.{HasFields}
-use Rattle.og_session.proofs.RecordLemmas.{no_field, field_more, fields_next, fields_all, record_ended}
+use Rattle.og_file.specs.Writers.{HasFields}
+use Rattle.og_file.proofs.WriteLemmas.{no_field_yet, field_more, fields_next, fields_all, record_ended}
 use Rattle.og_session.proofs.records.write_header.Goals as goal
 
 pub columns-init : goal.columns-init
-columns-init c = no_field c.args.writer.now
+columns-init c = no_field_yet c.args.writer.now
 
 pub columns-preserved : goal.columns-preserved
 columns-preserved c =

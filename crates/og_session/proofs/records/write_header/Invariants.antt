@@ -1,5 +1,5 @@
 use Rattle.std.proofs.Common.{ℕ, List, map, take}
-use Rattle.og_session.specs.Records.{HasText, HasFields}
+use Rattle.og_file.specs.Writers.{HasText, HasFields}
 use Rattle.og_session.proofs.records.write_header.Given as goal
 
 abbrev pub invariant-columns : goal.invariant-columns

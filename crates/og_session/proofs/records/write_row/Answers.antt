@@ -1,12 +1,12 @@
 use Rattle.std.proofs.Common.{map, sym, subst, rules}
 use Rattle.std.proofs.lemmas.Result.{on_ok_weaker}
 use Rattle.og_value.specs.Cells.{fixed_text}
-use Rattle.og_session.specs.Records.{HasFields}
-use Rattle.og_session.proofs.RecordLemmas.{no_field, fields_next, fields_all, record_ended}
+use Rattle.og_file.specs.Writers.{HasFields}
+use Rattle.og_file.proofs.WriteLemmas.{no_field_yet, fields_next, fields_all, record_ended}
 use Rattle.og_session.proofs.records.write_row.Goals as goal
 
 pub values-init : goal.values-init
-values-init c = no_field c.args.writer.now
+values-init c = no_field_yet c.args.writer.now
 
 pub values-preserved : goal.values-preserved
 values-preserved c =

@@ -1,6 +1,6 @@
 use Rattle.std.proofs.Common.{◌∙◌, ◌++◌, ap}
 use Rattle.og_value.specs.Cells.{fixed_text}
-use Rattle.og_session.proofs.RecordLemmas.{field_more}
+use Rattle.og_file.proofs.WriteLemmas.{field_more}
 use Rattle.og_session.proofs.records.write_value.Goals as goal
 
 pub returns-in-Text : goal.returns-in-Text

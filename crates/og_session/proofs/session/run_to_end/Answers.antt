@@ -1,22 +1,28 @@
-use Rattle.std.proofs.Common.{subst, sym, ap, Result, Err}
-use Rattle.og_session.specs.Ends.{EndsUnreported, Ends}
+use Rattle.std.proofs.Common.{Result, sym, subst}
+use Rattle.og_session.specs.Ends.{Ends, EndsUnreported}
 use Rattle.og_session.specs.declared.fault.Stop.{Stop}
-use Rattle.og_session.proofs.EndLemmas.{ends_unfaulted, ends_reported, ends_unsaid}
+use Rattle.og_session.proofs.EndLemmas.{end_unput, reported, unfaulted, unsaid}
 use Rattle.og_session.proofs.session.run_to_end.Goals as goal
 
 pub returns-in_default-clause-told : goal.returns-in_default-clause-told
-returns-in_default-clause-told g c source told = ends_unfaulted _ source _ _ _ c.carry_out-end.result c.in_default.ensures.none (c.carry_out-end.ensures.told source told)
+returns-in_default-clause-told g c source start run told files defined =
+    unfaulted run start _ _ _ _ c.carry_out-end.result c.in_default.ensures.none (c.carry_out-end.ensures.told source start run told files defined)
 
 pub returns-in-Err-clause-told : goal.returns-in-Err-clause-told
-returns-in-Err-clause-told g c source told =
-    let e = c.carry_out-end.ensures.told source told in
-    rw c.from.ensures (ends_unsaid c.one_defined_run.ensures.one _ source _ _ _ _ c.in-Some.fault.now c.in-Err.refusal
-    (e.0, e.1, subst (λ (r : Result (Unit {0}) Stop). EndsUnreported c.args.words.now source c.carry_out-end.new.db e.0 r) c.in-Some.ensures.fault e.2)
-    c.in-Err.ensures.refused (λ failed. c.in-Err.ensures.some (ap Err failed)))
+returns-in-Err-clause-told g c source start run told files defined =
+    let folder = g.F.Files.folder c.carry_out-end.new.files in
+    let e = c.carry_out-end.ensures.told source start run told files defined in
+    rw c.from.ensures (unsaid run start c.carry_out-end.new.db folder _ _ _ c.in-Some.fault.now
+    (e.0, e.1, subst (λ (r : Result (Unit {0}) Stop). EndsUnreported run start c.carry_out-end.new.db folder e.0 r) c.in-Some.ensures.fault e.2)
+    c.in-Err.refusal c.in-Err.ensures.put)
+
+pub returns-in-Err-clause-ended : goal.returns-in-Err-clause-ended
+returns-in-Err-clause-ended g c = rw c.from.ensures (end_unput c.args.words.now _ c.in-Err.refusal)
 
 pub returns-clause-told : goal.returns-clause-told
-returns-clause-told g c source told =
-    let e = c.carry_out-end.ensures.told source told in
-    let whole = ends_reported _ source _ _ _ _ c.in-Some.fault.now
-    (e.0, e.1, subst (λ (r : Result (Unit {0}) Stop). EndsUnreported c.args.words.now source c.carry_out-end.new.db e.0 r) c.in-Some.ensures.fault e.2) c.in_default-report.ensures.written in
-    (whole.0, whole.1, subst (λ (r : Result (Unit {0}) Stop). Ends c.args.words.now source c.carry_out-end.new.db whole.0 r) (sym c.in-Some.ensures.fault) whole.2)
+returns-clause-told g c source start run told files defined =
+    let folder = g.F.Files.folder c.carry_out-end.new.files in
+    let e = c.carry_out-end.ensures.told source start run told files defined in
+    let whole = reported run start c.carry_out-end.new.db folder _ _ _ c.in-Some.fault.now
+    (e.0, e.1, subst (λ (r : Result (Unit {0}) Stop). EndsUnreported run start c.carry_out-end.new.db folder e.0 r) c.in-Some.ensures.fault e.2) c.in_default-report.ensures.put in
+    (whole.0, whole.1, subst (λ (r : Result (Unit {0}) Stop). Ends run start c.carry_out-end.new.db folder whole.0 r) (sym c.in-Some.ensures.fault) whole.2)

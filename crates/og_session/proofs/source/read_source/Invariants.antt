@@ -1,5 +1,5 @@
--- The bytes read so far were at the front of the source, they are no more than the limit, and each turn brought one or more.
-use Rattle.std.proofs.Common.{◌≤◌, length}
+-- The bytes read so far were at the front of the source, they are no more than the limit, each turn brought one or more, and the source did not fail.
+use Rattle.std.proofs.Common.{◌≡◌, ◌≤◌, length}
 use Rattle.std.specs.Io.KnownBytes.{Consumes}
 use Rattle.og_session.specs.Runs.{max_source}
 use Rattle.og_session.proofs.source.read_source.Given as goal
@@ -9,5 +9,5 @@ invariant-parts g l = record {
   front : Consumes (g.S.Source.left l.initial.src) (g.S.Source.left l.src) l.bytes.items;
   small : length l.bytes.items ≤ max_source;
   turns : l.counter ≤ length l.bytes.items;
-  later : g.S.Source.faults l.initial.src ≤ g.S.Source.faults l.src;
+  kept : g.S.Source.faults l.src ≡ g.S.Source.faults l.initial.src;
 }

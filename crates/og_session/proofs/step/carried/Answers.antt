@@ -1,6 +1,9 @@
-use Rattle.std.proofs.Common.{◌≡◌, subst, Ok, Err}
+use Rattle.std.proofs.Common.{◌≡◌, ap, sym, subst, Ok, Err}
 use Rattle.og_check.specs.Statements.{checked}
 use Rattle.og_db.specs.Held.{known_of}
+use Rattle.og_session.specs.Contents.{outcome_of}
+use Rattle.og_session.specs.Ends.{StepEnds}
+use Rattle.og_session.proofs.CountLemmas.{check_counted, check_stopped}
 use Rattle.og_session.proofs.StepLemmas.{check-stopped, typed_built}
 use Rattle.og_session.proofs.step.carried.Goals as goal
 
@@ -8,13 +11,26 @@ pub done-requires-clause-built : goal.done-requires-clause-built
 done-requires-clause-built g c κs within = typed_built (known_of c.args.db.now) c.args.stmt c.in-Ok.typed c.requires.built c.in-Ok.ensures.typed
 
 pub returns-in-Ok-clause-ends : goal.returns-in-Ok-clause-ends
-returns-in-Ok-clause-ends g c before world =
-    let good = subst (λ k. checked k c.args.stmt ≡ Ok c.in-Ok.typed) (c.known_names.ensures c.args.db.now before world) c.in-Ok.ensures.typed in
-    c.done.ensures.ends c.args.number c.args.stmt before world good
+returns-in-Ok-clause-ends g c start contents holds before state =
+    let good = subst (λ k. checked k c.args.stmt ≡ Ok c.in-Ok.typed) (c.known_names.ensures c.args.db.now state.files before state.world) c.in-Ok.ensures.typed in
+    let ends = c.done.ensures.ends start contents holds before state in
+    (ends.0, ends.1, subst (λ o. StepEnds start c.args.number before o c.done.new.db (g.F.Files.folder c.done.new.files) ends.0 c.done.result) (sym (ap (outcome_of contents before) good)) ends.2)
 
 pub returns-in-Err-clause-ends : goal.returns-in-Err-clause-ends
-returns-in-Err-clause-ends g c before world =
-    let known = c.known_names.ensures c.args.db.now before world in
+returns-in-Err-clause-ends g c start contents holds before state =
+    let known = c.known_names.ensures c.args.db.now state.files before state.world in
     rw c.of_check.ensures
-    (check-stopped c.args.number before c.args.stmt c.args.db.now _ c.in-Err.refusal world
+    (check-stopped start c.args.number before contents c.args.stmt c.args.db.now _ _ c.in-Err.refusal state
     (λ bad. subst (λ k. checked k c.args.stmt ≡ Err c.in-Err.refusal) known (c.in-Err.ensures.refused bad)))
+
+pub returns-in-Err-clause-late : goal.returns-in-Err-clause-late
+returns-in-Err-clause-late g c = rw c.of_check.ensures (check_stopped c.args.number c.in-Err.refusal)
+
+pub returns-in-Err-clause-files : goal.returns-in-Err-clause-files
+returns-in-Err-clause-files g c = rw c.of_check.ensures (check_counted c.args.number c.in-Err.refusal _).0
+
+pub returns-in-Err-clause-writes : goal.returns-in-Err-clause-writes
+returns-in-Err-clause-writes g c = rw c.of_check.ensures (check_counted c.args.number c.in-Err.refusal _).1
+
+pub returns-in-Err-clause-absences : goal.returns-in-Err-clause-absences
+returns-in-Err-clause-absences g c = rw c.of_check.ensures (check_counted c.args.number c.in-Err.refusal _).2

@@ -1,18 +1,31 @@
-use Rattle.std.proofs.Common.{refl}
-use Rattle.std.proofs.lemmas.Result.{err_from_is_err_and}
-use Rattle.og_session.specs.Output.{piece_of}
-use Rattle.og_session.proofs.StepLemmas.{put-stopped, execute-stopped}
+use Rattle.std.proofs.Common.{[], sym, subst}
+use Rattle.std.proofs.KnownBytes.{Appends-nil}
+use Rattle.og_session.specs.Contents.{effect_of, taken}
+use Rattle.og_session.specs.Ends.{StepEnds}
+use Rattle.og_session.proofs.CountLemmas.{step_by_put}
+use Rattle.og_session.proofs.StepLemmas.{effect-names, of_names}
 use Rattle.og_session.proofs.step.done.Goals as goal
 
-pub returns-in-Err-clause-ends : goal.returns-in-Err-clause-ends
-returns-in-Err-clause-ends g c number stmt before world good =
-    rw c.from.ensures (put-stopped number before stmt c.args.typed good c.args.db.now _ _ c.in-Err.refusal world (c.in-Err.ensures.put before world))
+pub on_names-requires-clause-names : goal.on_names-requires-clause-names
+on_names-requires-clause-names g c κs within = of_names c.args.typed c.requires.built c.in_default.not-Save c.in_default.not-OpenFile c.in_default.not-ImportFile
 
-pub returns-in_err-execute-clause-ends : goal.returns-in_err-execute-clause-ends
-returns-in_err-execute-clause-ends g c number stmt before world good =
-    let p = err_from_is_err_and c.from_residual.result c.from_residual.ensures.1 in
-    rw (p.1, p.2) (execute-stopped number before stmt c.args.typed good c.args.db.now c.execute.new.db _ _ world c.in_err-execute.ensures.refused (c.in_default.ensures.put before world))
+pub returns-in-Save-clause-ends : goal.returns-in-Save-clause-ends
+returns-in-Save-clause-ends g c start contents holds before state =
+    ([], Appends-nil _, subst (λ t. StepEnds start c.args.number before (taken (effect_of contents before t)) c.args.db.now (g.F.Files.folder c.save.new.files) [] c.save.result) (sym c.in-Save.is) (c.save.ensures.ends start c.args.number before state))
 
-pub returns-clause-ends : goal.returns-clause-ends
-returns-clause-ends g c number stmt before world good =
-    (piece_of before c.args.typed, c.in_default.ensures.put before world, (c.args.typed, good, c.in_ok-execute.ensures.world before world, refl))
+pub returns-in-OpenFile-clause-ends : goal.returns-in-OpenFile-clause-ends
+returns-in-OpenFile-clause-ends g c start contents holds before state =
+    ([], Appends-nil _, subst (λ t. StepEnds start c.args.number before (taken (effect_of contents before t)) c.open.new.db (g.F.Files.folder c.open.new.files) [] c.open.result) (sym c.in-OpenFile.is) (c.open.ensures.ends start contents holds before state))
+
+pub returns-in-ImportFile-clause-ends : goal.returns-in-ImportFile-clause-ends
+returns-in-ImportFile-clause-ends g c start contents holds before state =
+    ([], Appends-nil _, subst (λ t. StepEnds start c.args.number before (taken (effect_of contents before t)) c.import.new.db (g.F.Files.folder c.import.new.files) [] c.import.result) (sym c.in-ImportFile.is) (c.import.ensures.ends start contents holds before state))
+
+pub returns-in_default-clause-ends : goal.returns-in_default-clause-ends
+returns-in_default-clause-ends g c start contents holds before state =
+    let names = of_names c.args.typed c.requires.built c.in_default.not-Save c.in_default.not-OpenFile c.in_default.not-ImportFile in
+    let ends = c.on_names.ensures.ends start c.args.number before (g.F.Files.folder c.args.files.now) state in
+    (ends.0, ends.1, subst (λ o. StepEnds start c.args.number before (taken o) c.on_names.new.db (g.F.Files.folder c.args.files.now) ends.0 c.on_names.result) (sym (effect-names start c.args.number before contents c.args.typed names)) ends.2)
+
+pub returns-in_default-clause-late : goal.returns-in_default-clause-late
+returns-in_default-clause-late g c = step_by_put c.on_names.result c.on_names.ensures.stops

@@ -5,7 +5,7 @@ use Rattle.og_base.specs.Calendar.{IsRefDay}
 use Rattle.og_value.specs.Order.{row_order}
 use Rattle.og_value.specs.Values.{row_at}
 use Rattle.og_rel.specs.Relations.{relation_at}
-use Rattle.og_db.specs.Database.{world_at}
+use Rattle.og_db.specs.Database.{names_at}
 use Rattle.og_db.specs.Fits.{IsFitFixed}
 use Rattle.og_db.specs.Held.{known_of, rows_of, changed_at}
 use Rattle.og_db.specs.Runs.{AreWithin, sizes_at}
@@ -34,7 +34,7 @@ returns-clause-law g c =
     let is = ap (rows_of c.args.self.now) (sym c.bytes.ensures) ∙ sym c.in-Some.ensures in
     let law = subst (λ cmp. (d : ℤ) → IsRefDay d → relation_at cmp row_at c.in_ok-changed.changed d ≡ g.O.UnaryOp.plain c.args.op.now d (relation_at cmp row_at rel d)) row_order_is c.in_ok-changed.ensures.law in
     λ d day.
-    ap (world_at d) c.put.ensures
+    ap (names_at d) c.put.ensures
     ∙ made_of-changed_to c.args.name.now (λ rows. relation_at row_order row_at rows d) rel c.in_ok-changed.changed (g.O.UnaryOp.plain c.args.op.now d) c.args.self.now is c.names_differ.ensures (law d day)
 
 pub returns-clause-known : goal.returns-clause-known

@@ -4,7 +4,7 @@ use Rattle.std.proofs.lemmas.Result.{on_ok_weaker}
 use Rattle.og_base.specs.Set.{set_of}
 use Rattle.og_ops.specs.Plain.{replaced}
 use Rattle.og_query.specs.Conditions.{truth}
-use Rattle.og_db.specs.Database.{world_at}
+use Rattle.og_db.specs.Database.{names_at}
 use Rattle.og_db.specs.Fits.{IsFitFixed}
 use Rattle.og_db.specs.Held.{changed_at}
 use Rattle.og_db.specs.Statements.{assigned}
@@ -28,5 +28,5 @@ pub returns-clause-law : goal.returns-clause-law
 returns-clause-law c =
     on_ok_weaker c.change.result (λ law d day.
     law d day
-    ∙ ap (λ cmp. changed_at c.args.name.now (λ rows. set_of cmp (map (replaced (λ row. truth d row c.args.cond.now) (assigned d c.args.sets.now)) rows)) (world_at d c.args.self.now)) row_order_is)
+    ∙ ap (λ cmp. changed_at c.args.name.now (λ rows. set_of cmp (map (replaced (λ row. truth d row c.args.cond.now) (assigned d c.args.sets.now)) rows)) (names_at d c.args.self.now)) row_order_is)
     c.change.ensures.law

@@ -1,0 +1,20 @@
+use Rattle.std.proofs.Common.{ℕ, List, IfOk, IfErr, sym, ap, ◌∙◌, subst}
+use Rattle.og_session.specs.Ends.{IsSourceOf, IsStopBefore}
+use Rattle.og_session.specs.Runs.{IsScriptOf, first_unbuilt}
+use Rattle.og_session.proofs.CommandLemmas.{load_built}
+use Rattle.og_session.proofs.ScriptLemmas.{at_built}
+use Rattle.og_session.proofs.script.script_of.Goals as goal
+
+pub returns-in-Run-clause-script : goal.returns-in-Run-clause-script
+returns-in-Run-clause-script g c =
+    subst (λ k. (source : List ℕ) → IsSourceOf k (g.S.Source.left c.args.src.now) source → IfOk c.read_script.result (IsScriptOf k source)) (sym c.in-Run.is)
+    (λ source told. c.read_script.ensures.script source (told tt))
+
+pub returns-in-Run-clause-stops : goal.returns-in-Run-clause-stops
+returns-in-Run-clause-stops g c = subst (λ k. IfErr c.read_script.result (IsStopBefore k)) (sym c.in-Run.is) (c.read_script.ensures.stops c.in-Run.workers)
+
+pub returns-in_ok-at_statements-in-At-clause-built : goal.returns-in_ok-at_statements-in-At-clause-built
+returns-in_ok-at_statements-in-At-clause-built g c = ap (first_unbuilt 1) c.in_ok-at_statements-in-At.ensures ∙ at_built 1 c.in-At.file c.in-At.day
+
+pub returns-in_ok-load_statements-in-Load-clause-built : goal.returns-in_ok-load_statements-in-Load-clause-built
+returns-in_ok-load_statements-in-Load-clause-built g c = ap (first_unbuilt 1) c.in_ok-load_statements-in-Load.ensures ∙ load_built 1 c.in-Load.rows
