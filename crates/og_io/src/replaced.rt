@@ -43,7 +43,7 @@ pub(crate) fn read_whole<F: Read + Drop>(file: F, alloc: Global) -> Result<Vec<u
 }
 
 // Makes the file, or replaces it, by a new file beside it that takes its name. `Failed` where it may not
-// be written or the system fails; then no new file is left.
+// be written or the system fails; then no new file is left, where the system lets it be removed.
 pub(crate) fn replace_file<H: Files>(
     rt: &H,
     alloc: Global,
