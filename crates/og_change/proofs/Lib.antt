@@ -1,0 +1,4 @@
+pub mod AroundLemmas
+pub mod BoundLemmas
+pub mod SameLemmas
+pub mod StayLemmas
