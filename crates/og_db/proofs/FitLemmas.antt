@@ -37,7 +37,7 @@ kinds_at (value ∷ row) d = ap₂ (λ k ks. k ∷ ks) (kind_at value d) (kinds_
 
 module _ {R F : Type 0} (at : R → ℤ → F) (d : ℤ) where
   -- what holds of each row on the day holds of each that is present
-  All-present : (P : F → Type 0) (rel : List (R × List Range)) → AllByRecursion (λ p. P (at p.0 d)) rel → AllByRecursion P (present at rel d)
+  pub All-present : (P : F → Type 0) (rel : List (R × List Range)) → AllByRecursion (λ p. P (at p.0 d)) rel → AllByRecursion P (present at rel d)
   All-present P [] all = tt
   All-present P (p ∷ rel) all =
       elim (holds_day p.1 d) as (λ b. AllByRecursion P (if b then at p.0 d ∷ present at rel d else present at rel d)) [

@@ -30,7 +30,7 @@ named_rows names name = or_else [] (rows_of names name)
 abbrev pub assigned : ℤ → List Assign → Fixed → Fixed
 assigned d sets row = fold (λ new one. set new one.column (meaning d row one.expr)) row sets
 
--- whether a statement acts on names alone: all do but those of files; VALID and LIVE are not built
+-- whether a statement acts on names alone: all do but those of files; LIVE is not built
 abbrev pub is_of_names : Typed → Bool
 is_of_names (t.Create name columns) = true
 is_of_names (t.Insert name tuples) = true
@@ -45,7 +45,7 @@ is_of_names (t.Save name file) = false
 is_of_names (t.OpenFile name file) = false
 is_of_names (t.ImportFile name file) = false
 is_of_names (t.Explain query) = true
-is_of_names (t.Valid name day) = false
+is_of_names (t.Valid name day) = true
 is_of_names (t.Live name query) = false
 
 -- what stands for the effect of a statement that does not act on names alone: none, since none is asked for here

@@ -5,6 +5,7 @@ pub mod CountLemmas
 pub mod EndLemmas
 pub mod FileLemmas
 pub mod HeadlineLemmas
+pub mod LayoutLemmas
 pub mod LineLemmas
 pub mod OneRun
 pub mod PieceLemmas
@@ -13,7 +14,9 @@ pub mod RecordLemmas
 pub mod RunLemmas
 pub mod ScriptLemmas
 pub mod Scripts
+pub mod SearchLemmas
 pub mod StateLemmas
 pub mod StepLemmas
 pub mod TurnLemmas
+pub mod ValidLemmas
 pub mod WorldSteps

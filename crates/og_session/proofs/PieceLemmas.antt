@@ -67,21 +67,21 @@ names-sizes (h ∷ hs) = ap (λ rs. name_record h ∷ rs) (names-sizes hs)
 pub piece-tables : (db files : List (Held Relation)) (before : List Effect) → IsWorldOf db files before → names_text db ≡ piece_of before (on_names t.Tables)
 piece-tables db files before world = ap (λ rs. records ((codes "name" ∷ codes "what" ∷ []) ∷ rs)) (names-sizes db ∙ names-within (sizes_at db) _ world.sizes)
 
--- any statement but these four writes nothing
+-- any statement but these five writes nothing
 pub others_write_nothing : (before : List Effect) (stmt : Typed) → ((name : List ℕ) (day : ℤ) → ¬ (stmt ≡ t.PrintName name day)) → ((query : Query) (day : ℤ) → ¬ (stmt ≡ t.PrintQuery query day))
-    → ¬ (stmt ≡ t.Tables) → ((query : Query) → ¬ (stmt ≡ t.Explain query)) → piece_of before (on_names stmt) ≡ []
-others_write_nothing before (t.PrintName name day) name_no query_no tables_no explain_no = absurd (name_no name day refl)
-others_write_nothing before (t.PrintQuery query day) name_no query_no tables_no explain_no = absurd (query_no query day refl)
-others_write_nothing before t.Tables name_no query_no tables_no explain_no = absurd (tables_no refl)
-others_write_nothing before (t.Explain query) name_no query_no tables_no explain_no = absurd (explain_no query refl)
-others_write_nothing before (t.Create name columns) name_no query_no tables_no explain_no = refl
-others_write_nothing before (t.Insert name rows) name_no query_no tables_no explain_no = refl
-others_write_nothing before (t.Delete name cond) name_no query_no tables_no explain_no = refl
-others_write_nothing before (t.Update name sets cond) name_no query_no tables_no explain_no = refl
-others_write_nothing before (t.Drop name) name_no query_no tables_no explain_no = refl
-others_write_nothing before (t.Keep name query) name_no query_no tables_no explain_no = refl
-others_write_nothing before (t.Save name file) name_no query_no tables_no explain_no = refl
-others_write_nothing before (t.OpenFile name file) name_no query_no tables_no explain_no = refl
-others_write_nothing before (t.ImportFile name file) name_no query_no tables_no explain_no = refl
-others_write_nothing before (t.Valid name day) name_no query_no tables_no explain_no = refl
-others_write_nothing before (t.Live name query) name_no query_no tables_no explain_no = refl
+    → ¬ (stmt ≡ t.Tables) → ((query : Query) → ¬ (stmt ≡ t.Explain query)) → ((name : List ℕ) (day : ℤ) → ¬ (stmt ≡ t.Valid name day)) → piece_of before (on_names stmt) ≡ []
+others_write_nothing before (t.PrintName name day) name_no query_no tables_no explain_no valid_no = absurd (name_no name day refl)
+others_write_nothing before (t.PrintQuery query day) name_no query_no tables_no explain_no valid_no = absurd (query_no query day refl)
+others_write_nothing before t.Tables name_no query_no tables_no explain_no valid_no = absurd (tables_no refl)
+others_write_nothing before (t.Explain query) name_no query_no tables_no explain_no valid_no = absurd (explain_no query refl)
+others_write_nothing before (t.Create name columns) name_no query_no tables_no explain_no valid_no = refl
+others_write_nothing before (t.Insert name rows) name_no query_no tables_no explain_no valid_no = refl
+others_write_nothing before (t.Delete name cond) name_no query_no tables_no explain_no valid_no = refl
+others_write_nothing before (t.Update name sets cond) name_no query_no tables_no explain_no valid_no = refl
+others_write_nothing before (t.Drop name) name_no query_no tables_no explain_no valid_no = refl
+others_write_nothing before (t.Keep name query) name_no query_no tables_no explain_no valid_no = refl
+others_write_nothing before (t.Save name file) name_no query_no tables_no explain_no valid_no = refl
+others_write_nothing before (t.OpenFile name file) name_no query_no tables_no explain_no valid_no = refl
+others_write_nothing before (t.ImportFile name file) name_no query_no tables_no explain_no valid_no = refl
+others_write_nothing before (t.Valid name day) name_no query_no tables_no explain_no valid_no = absurd (valid_no name day refl)
+others_write_nothing before (t.Live name query) name_no query_no tables_no explain_no valid_no = refl

@@ -100,7 +100,7 @@ of_names (t.Explain query) built saves opens imports = refl
 of_names (t.Save name file) built saves opens imports = absurd (saves name file refl)
 of_names (t.OpenFile name file) built saves opens imports = absurd (opens name file refl)
 of_names (t.ImportFile name file) built saves opens imports = absurd (imports name file refl)
-of_names (t.Valid name day) built saves opens imports = cc built
+of_names (t.Valid name day) built saves opens imports = refl
 of_names (t.Live name query) built saves opens imports = cc built
 
 -- what was checked, where it is a statement, is built
@@ -144,7 +144,7 @@ typed_built known stmt typed built good = subst IsBuilt good (all stmt built)
     all (s.OpenFile name file) built = check_first (spec.new_name known name) (λ _. pure (t.OpenFile name file)) (λ _. refl)
     all (s.ImportFile name file) built = check_first (spec.table_columns known name) (λ _. pure (t.ImportFile name file)) (λ _. refl)
     all (s.Explain query) built = check_first (query_of (schemas_of known) query) (λ q. pure (t.Explain q)) (λ q. refl)
-    all (s.Valid name day) built = cc built
+    all (s.Valid name day) built = check_first (spec.named_columns known name) (λ _. pure (t.Valid name day)) (λ _. refl)
     all (s.Live name query) built = cc built
 
 -- the first of statements that are all built, and the others

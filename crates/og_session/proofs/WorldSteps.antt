@@ -57,5 +57,5 @@ module _ (done : Done) where
   only_written same db (t.Save name file) built create insert delete update drops keep = cc built
   only_written same db (t.OpenFile name file) built create insert delete update drops keep = cc built
   only_written same db (t.ImportFile name file) built create insert delete update drops keep = cc built
-  only_written same db (t.Valid name day) built create insert delete update drops keep = cc built
+  only_written same db (t.Valid name day) built create insert delete update drops keep = λ files. done db db files (t.Valid name day) (λ d day. refl) (same (sizes_at db))
   only_written same db (t.Live name query) built create insert delete update drops keep = cc built

@@ -149,9 +149,8 @@ IsStepStop (Err (stops.Fault fault)) = (fault_status fault ≡ 4) ⊎ (fault_sta
 IsStepStop (Err stops.ReadFault) = ⊥
 IsStepStop _ = ⊤
 
--- whether a statement is built: all are but VALID and LIVE
+-- whether a statement is built: all are but LIVE
 abbrev pub is_built_typed : Typed → Bool
-is_built_typed (t.Valid name day) = false
 is_built_typed (t.Live name query) = false
 is_built_typed _ = true
 

@@ -1,4 +1,5 @@
 pub mod Answers
+pub mod Calendars
 pub mod Commands
 pub mod Contents
 pub mod Counts

@@ -1,7 +1,11 @@
 -- What statements write, as the ordinary engine says it.
-use Rattle.std.specs.Prelude.{◌++◌, ℕ, List, [], ◌∷◌, Option, Some, None, map, codes}
+use Rattle.std.specs.Prelude.{◌++◌, ◌+ℤ◌, ◌-ℤ◌, ℕ, zero, suc, ℤ, pos, Bool, List, [], ◌∷◌, Option, Some, None, map, codes, unsigned_abs, if◌then◌else◌}
 use Rattle.std.specs.List.{flat_map}
+use Rattle.std.specs.Str.{bytes_eq}
 use Rattle.csv.specs.Writing.{default_writer, row_text}
+use Rattle.og_base.specs.Calendar.{day_text, first_day, last_day}
+use Rattle.og_base.specs.Ranges.{Range}
+use Rattle.og_base.specs.SetTexts.{lower_text}
 use Rattle.og_value.specs.Cells.{fixed_text}
 use Rattle.og_value.specs.declared.kind.What.{What}
 use Rattle.og_value.specs.declared.kind.What.TheVariants as what
@@ -37,12 +41,42 @@ what_word what.Live = codes "live"
 abbrev pub names_text : {V : Type 0} → List (Held V) → List ℕ
 names_text held = records ((codes "name" ∷ codes "what" ∷ []) ∷ map (λ h. h.name ∷ what_word h.what ∷ []) held)
 
+-- what a PRINT of a name writes on a day after these statements
+abbrev pub printed : List Effect → List ℕ → ℤ → List ℕ
+printed before name day = held_layout (found (world_of_day day before).names name)
+
+-- the first of the days, so many at most, before a day from which on a test holds up to that day
+unfoldable pub first_of : (ℤ → Bool) → ℤ → ℕ → ℤ
+first_of test day zero = day
+first_of test day (suc n) = if test (day -ℤ pos 1) then first_of test (day -ℤ pos 1) n else day
+
+-- and the day after the last of those after it
+unfoldable pub end_of : (ℤ → Bool) → ℤ → ℕ → ℤ
+end_of test day zero = day +ℤ pos 1
+end_of test day (suc n) = if test (day +ℤ pos 1) then end_of test (day +ℤ pos 1) n else day +ℤ pos 1
+
+-- whether a PRINT of the name writes the same on the other day
+abbrev pub prints_same : List Effect → List ℕ → ℤ → ℤ → Bool
+prints_same before name day other = bytes_eq (printed before name other) (printed before name day)
+
+-- valid range: the longest range of days around the day on all of which a PRINT of the name writes the same
+unfoldable pub valid_range : List Effect → List ℕ → ℤ → Range
+valid_range before name day = record {
+  lo = first_of (prints_same before name day) day (unsigned_abs (day -ℤ first_day));
+  hi = end_of (prints_same before name day) day (unsigned_abs (last_day -ℤ day));
+}
+
+-- the record from,to and one with the two ends, as a set text has them
+abbrev pub range_records : Range → List ℕ
+range_records range = records ((codes "from" ∷ codes "to" ∷ []) ∷ (lower_text range.lo ∷ day_text range.hi ∷ []) ∷ [])
+
 -- what a statement writes after those before it: a PRINT writes the rows in the world of its own day
 abbrev pub piece_of : List Effect → Effect → List ℕ
-piece_of before (on_names (t.PrintName name day)) = held_layout (found (world_of_day day before).names name)
+piece_of before (on_names (t.PrintName name day)) = printed before name day
 piece_of before (on_names (t.PrintQuery query day)) = layout query.first.schema (ordinary_query day (named_rows (world_of_day day before).names) query)
 piece_of before (on_names t.Tables) = names_text (sizes_after before).names
 piece_of before (on_names (t.Explain query)) = plan_text (plan_of query)
+piece_of before (on_names (t.Valid name day)) = range_records (valid_range before name day)
 piece_of before _ = []
 
 -- what statements write, one after the other, after those before them

@@ -47,9 +47,8 @@ run_from start n before (stmt ∷ stmts) = after_outcome n before (λ effect. ru
 
 -- ---- the script
 
--- whether a statement is built: all are but VALID and LIVE
+-- whether a statement is built: all are but LIVE
 abbrev pub is_built : Stmt → Bool
-is_built (s.Valid name day) = false
 is_built (s.Live name query) = false
 is_built _ = true
 

@@ -1,11 +1,16 @@
 //! What holds of the definitions themselves.
-ghost use Rattle.std.specs.Prelude.{◌≡◌, [], List, ℕ};
+ghost use Rattle.std.specs.Prelude.{◌≡◌, [], List, ℕ, ℤ};
+ghost use Rattle.og_base.specs.Calendar.{IsRefDay};
+ghost use Rattle.og_base.specs.Ranges.{Range};
+ghost use Rattle.og_change.specs.Same.{IsLongest};
 ghost use Rattle.og_syntax.specs.declared.tree.Stmt.{Stmt};
 ghost use Rattle.og_words.specs.Grammar.{IsCommand};
 ghost use Rattle.og_words.specs.declared.command.Command as commands;
 ghost use Rattle.og_io.specs.Folders.{Folder};
+ghost use Rattle.og_db.specs.Effects.{Effect};
 ghost use Rattle.og_session.specs.Contents.{AreContents, Contents};
 ghost use Rattle.og_session.specs.Lines.{words_line};
+ghost use Rattle.og_session.specs.Output.{printed, valid_range};
 ghost use Rattle.og_session.specs.Runs.{IsDefinedRun, IsNoCommand, IsRun, IsScript, IsScriptFault, IsScriptOf, Run, refused, run_from};
 
 use og_file::{
@@ -48,6 +53,14 @@ pub fn defined_runs()
     tree_or_fault();
     one_command();
 }
+
+/// The valid range is the longest range of days around the day on all of which a PRINT of the name writes what
+/// it writes on the day, and there is one such range alone. So the search that defines it need not be trusted.
+/// It has nothing to do: it is called for this contract.
+pub fn valid_ranges()
+    ensures longest { (before : List Effect) (name : List ℕ) (day : ℤ) → IsRefDay day → IsLongest (λ d. printed before name d ≡ printed before name day) day (valid_range before name day) }
+    ensures one { (before : List Effect) (name : List ℕ) (day : ℤ) (range : Range) → IsRefDay day → IsLongest (λ d. printed before name d ≡ printed before name day) day range → range ≡ valid_range before name day }
+{}
 
 /// Any files hold something.
 fn some_content()

@@ -5,9 +5,10 @@
 //! clauses say that the status, the output, the database and the files are those of the defined run
 //! (`IsDefinedRun` in specs/Runs.antt), or that a device failed or memory ran out after some first
 //! statements. What a statement does after those before it, or why it is refused, is `outcome` in
-//! specs/Contents.antt; what it writes stands in specs/Output.antt, the lines of faults in
-//! specs/Lines.antt, the scripts of `at` and `load` in specs/Commands.antt. Of a source or of files that
-//! do not tell their bytes it says far less (docs/PROOFS.md, "The headline").
+//! specs/Contents.antt; what it writes stands in specs/Output.antt, where the range of VALID is the longest
+//! one (`valid_ranges`), the lines of faults in specs/Lines.antt, the scripts of `at` and `load` in
+//! specs/Commands.antt. Of a source or of files that do not tell their bytes it says far less
+//! (docs/PROOFS.md, "The headline").
 //!
 //! No tests here: the cases run it, each in many ways, and the gate runs the program over examples/ and
 //! .ci/runs/.
@@ -15,11 +16,13 @@
 
 mod answer;
 mod blocks;
+mod calendar;
 mod carry;
 mod commands;
 mod execute;
 mod fault;
 mod files;
+mod freeze;
 mod law;
 mod load;
 mod moves;
@@ -30,7 +33,8 @@ mod script;
 mod session;
 mod source;
 mod step;
+mod valid;
 
-pub use law::one_defined_run;
+pub use law::{one_defined_run, valid_ranges};
 pub use session::{run, run_gated};
 pub use source::MAX_SOURCE;

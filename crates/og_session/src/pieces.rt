@@ -17,6 +17,7 @@ ghost use Rattle.og_session.specs.Puts.{IsPut};
 use crate::answer::answer;
 use crate::puts::{put, put_layout, put_lines};
 use crate::records::names_text;
+use crate::valid::put_valid;
 use og_base::{NoMemory, RefDay};
 use og_db::{Db, found_names};
 use og_io::{PutRefusal, Sink};
@@ -29,7 +30,7 @@ use std::alloc::Global;
 use std::thread::Threads;
 
 /// Puts what the statement, which fits, writes: a PRINT the rows on its day, TABLES the names, EXPLAIN
-/// the plan, and any other nothing. Where it is refused, a front of it was put.
+/// the plan, VALID its range, and any other nothing. Where it is refused, a front of it was put.
 pub fn put_piece<H: Threads + Sync, K: Sink, G: Gate + Sync>(
     rt: &H,
     alloc: Global,
@@ -52,6 +53,7 @@ pub fn put_piece<H: Threads + Sync, K: Sink, G: Gate + Sync>(
         ),
         Typed::Tables => put(tables_piece(alloc, db)?.as_slice(), out),
         Typed::Explain { query } => put_plan(alloc, query, out),
+        Typed::Valid { name, day } => put_valid(alloc, name, *day, db, out),
         _ => Ok(()),
     }
 }

@@ -1,12 +1,14 @@
 //! The records that statements print, as csv writes them.
-ghost use Rattle.std.specs.Prelude.{◌≡◌, ◌++◌, ◌∷◌, [], ℕ, List, IfOk, OnOk, map};
+ghost use Rattle.std.specs.Prelude.{◌≡◌, ◌++◌, ◌∷◌, [], ℕ, List, IfOk, OnOk, codes, map};
 ghost use Rattle.csv.specs.Writing.{default_writer, row_text};
+ghost use Rattle.og_base.specs.Calendar.{day_text};
+ghost use Rattle.og_base.specs.SetTexts.{lower_text};
 ghost use Rattle.og_value.specs.Cells.{fixed_text};
-ghost use Rattle.og_session.specs.Output.{names_text, records, what_word};
+ghost use Rattle.og_session.specs.Output.{names_text, range_records, records, what_word};
 ghost use Rattle.og_file.specs.Writers.{HasText, HasFields};
 
 use csv::{Error, Writer, WriterBuilder};
-use og_base::NoMemory;
+use og_base::{DayRange, ExtDay, NoMemory, RefDay};
 use og_db::Db;
 use og_file::text_of;
 use og_value::{Catalog, FixedRow, FixedValue, Name, Schema, What, write_fixed};
@@ -37,6 +39,17 @@ pub fn names_text(alloc: Global, db: &Db) -> Result<Vec<u8>, NoMemory>
     ensures { IfOk result (λ v. v.items ≡ names_text db.now) }
 {
     match name_records(alloc, db) {
+        Ok(text) => Ok(text),
+        Err(_) => Err(NoMemory),
+    }
+}
+
+/// The range as VALID writes it: the record `from,to`, then one of its two ends.
+pub fn range_text(alloc: Global, range: DayRange) -> Result<Vec<u8>, NoMemory>
+    ensures { IfOk result (λ v. v.items ≡ range_records range) }
+{
+    let ends = range_row(alloc, range)?;
+    match end_records(alloc, &ends) {
         Ok(text) => Ok(text),
         Err(_) => Err(NoMemory),
     }
@@ -77,6 +90,36 @@ fn name_records(alloc: Global, db: &Db) -> Result<Vec<u8>, Error>
         };
         write_name(&mut writer, name, what)?;
     }
+    text_of(writer)
+}
+
+// The row of the two ends of a range.
+fn range_row(alloc: Global, range: DayRange) -> Result<FixedRow, NoMemory>
+    ensures { IfOk result (λ row. map fixed_text row ≡ lower_text range.lo ∷ day_text range.hi ∷ []) }
+{
+    let mut ends = Vec::with_capacity(alloc, 2)?;
+    ends.push(FixedValue::Date(lower_end(range.lo)))?;
+    ends.push(FixedValue::Date(range.hi))?;
+    Ok(FixedRow::of(ends))
+}
+
+// The day of which the text is that of the lower end: no range begins before the first day.
+fn lower_end(lo: RefDay) -> ExtDay
+    ensures { day_text result ≡ lower_text lo }
+{
+    if lo == RefDay::FIRST {
+        return ExtDay::NEG;
+    }
+    ExtDay::of(lo)
+}
+
+// The records of the ends, or the error of the writer, which is want of memory.
+fn end_records(alloc: Global, ends: &FixedRow) -> Result<Vec<u8>, Error>
+    ensures { IfOk result (λ v. v.items ≡ records ((codes "from" ∷ codes "to" ∷ []) ∷ map fixed_text ends.now ∷ [])) }
+{
+    let mut writer = new_writer(alloc);
+    writer.write_fields(&[b"from", b"to"])?;
+    write_row(&mut writer, ends, &mut Vec::new(alloc))?;
     text_of(writer)
 }
 

@@ -96,9 +96,9 @@ fn first_unbuilt(stmts: &[Stmt]) -> Option<usize>
     None
 }
 
-// Whether the statement runs: all do but VALID and LIVE.
+// Whether the statement runs: all do but LIVE.
 fn is_built(stmt: &Stmt) -> bool
     ensures { result ≡ spec.is_built stmt.now }
 {
-    !matches!(stmt, Stmt::Valid { .. } | Stmt::Live { .. })
+    !matches!(stmt, Stmt::Live { .. })
 }

@@ -15,11 +15,15 @@ pub returns-in-Explain-clause-put : goal.returns-in-Explain-clause-put
 returns-in-Explain-clause-put g c files before world =
     subst (λ stmt. IsPut (g.K.Sink.written c.args.out.now) (g.K.Sink.written c.put_plan.new.out) (piece_of before (on_names stmt)) c.put_plan.result) (sym c.in-Explain.is) (c.put_plan.ensures.put before)
 
+pub returns-in-Valid-clause-put : goal.returns-in-Valid-clause-put
+returns-in-Valid-clause-put g c files before world =
+    subst (λ stmt. IsPut (g.K.Sink.written c.args.out.now) (g.K.Sink.written c.put_valid.new.out) (piece_of before (on_names stmt)) c.put_valid.result) (sym c.in-Valid.is) (c.put_valid.ensures.put files before world)
+
 pub returns-in_default-clause-put : goal.returns-in_default-clause-put
 returns-in_default-clause-put g c files before world =
     let not = c.in_default in
     let out = g.K.Sink.written c.args.out.now in
-    subst (Appends out out) (sym (others_write_nothing before c.args.stmt.now not.not-PrintName not.not-PrintQuery not.not-Tables not.not-Explain)) (Appends-nil out)
+    subst (Appends out out) (sym (others_write_nothing before c.args.stmt.now not.not-PrintName not.not-PrintQuery not.not-Tables not.not-Explain not.not-Valid)) (Appends-nil out)
 
 pub returns-in-PrintName-clause-put : goal.returns-in-PrintName-clause-put
 returns-in-PrintName-clause-put g c files before world =

@@ -1,0 +1,9 @@
+use Rattle.std.proofs.Common.{◌∙◌, ap, subst}
+use Rattle.og_session.specs.Output.{range_records}
+use Rattle.og_session.specs.Puts.{IsPut}
+use Rattle.og_session.proofs.valid.put_valid.Goals as goal
+
+pub returns-clause-put : goal.returns-clause-put
+returns-clause-put g c files before world =
+    let text = c.as_slice.ensures.value ∙ c.in_ok-range_text.ensures ∙ ap range_records (c.in_ok-range.ensures files before world) in
+    subst (λ t. IsPut (g.K.Sink.written c.args.out.now) (g.K.Sink.written c.put.new.out) t c.put.result) text c.put.ensures.put

@@ -1,0 +1,60 @@
+//! What VALID writes.
+ghost use Rattle.std.specs.Prelude.{◌≡◌, List, IfOk};
+ghost use Rattle.og_io.specs.declared.sink.PutRefusal.{PutRefusal};
+ghost use Rattle.og_query.specs.Fits.{IsNamed};
+ghost use Rattle.og_query.specs.declared.typed.Typed.TheVariants as t;
+ghost use Rattle.og_db.specs.Database.{Relation};
+ghost use Rattle.og_db.specs.Effects.{Effect, on_names};
+ghost use Rattle.og_db.specs.Held.{Held, known_of};
+ghost use Rattle.og_db.specs.Runs.{IsWorldOf};
+ghost use Rattle.og_session.specs.Counts.{IsFaultCount, is_unput};
+ghost use Rattle.og_session.specs.Output.{piece_of, valid_range};
+ghost use Rattle.og_session.specs.Puts.{IsPut};
+
+use crate::calendar::of_calendar;
+use crate::freeze::RowFreezer;
+use crate::puts::put;
+use crate::records::range_text;
+use og_base::{DayRange, NoMemory, RefDay};
+use og_db::{Db, fitting_rows, found_names};
+use og_io::{PutRefusal, Sink};
+use og_rel::Tables;
+use og_value::{Name, one_text_a_cell, order_of_rows};
+use std::alloc::Global;
+
+/// Puts the longest range of days around the day on all of which a PRINT of the name, which is known, writes
+/// the same. Where it is refused, a front of it was put.
+pub fn put_valid<K: Sink>(
+    alloc: Global,
+    name: &Name,
+    day: RefDay,
+    db: &Db,
+    out: &mut K,
+) -> Result<(), PutRefusal>
+    requires { IsNamed (known_of db.now) name.now }
+    ensures put { (files : List (Held Relation)) (before : List Effect) → IsWorldOf db.now files before → IsPut (K.written out.old) (K.written out.new) (piece_of before (on_names (t.Valid name.now day))) result }
+    ensures counted { IsFaultCount (is_unput result) (K.faults out.old) (K.faults out.new) }
+{
+    let range = range_of(alloc, name, day, db)?;
+    put(range_text(alloc, range)?.as_slice(), out)
+}
+
+// The range. The lists of the name's rows are the same on two days where their layouts are, since a row of
+// the columns' kinds is told by the texts of its values.
+fn range_of(alloc: Global, name: &Name, day: RefDay, db: &Db) -> Result<DayRange, NoMemory>
+    requires { IsNamed (known_of db.now) name.now }
+    ensures { IfOk result (λ range. (files : List (Held Relation)) (before : List Effect) → IsWorldOf db.now files before → range ≡ valid_range before name.now day) }
+{
+    order_of_rows();
+    found_names();
+    fitting_rows();
+    one_text_a_cell();
+    db.rows_fit();
+    // For its clause: the day is a reference day.
+    day.number();
+    let Some(rel) = db.rel(name.bytes()) else {
+        unreachable!();
+    };
+    of_calendar(rel);
+    og_change::valid_range(alloc, rel, day, &RowFreezer::new(alloc))
+}
