@@ -5,10 +5,13 @@
 //! top call, `run` of og_session, once or in many ways: over devices in memory, of which the files note what
 //! is written to them. In many ways it also compares what `print_script` prints, and has the queries answered
 //! by plans with several workers and by the plain evaluator. The programs og_cases and og_large_cases are this
-//! call and their files. A test has two workers of one run meet at a gate.
+//! call and their files. Of two tests one has two workers of a run meet at a gate, and one counts the calls
+//! of a run that ends with a fault.
 #![tactic(auto)]
 
 mod answers;
+#[cfg(test)]
+mod calls;
 mod case;
 mod case_file;
 mod ends;

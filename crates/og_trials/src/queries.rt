@@ -74,7 +74,11 @@ fn take<H: Threads + Sync + AllocGlobal>(
         Typed::Create { name, schema } => db.create(name.copy()?, schema.copy()?)?,
         Typed::Insert { name, rows } => db.insert(name, copies_of(rt.alloc(), rows.as_slice())?)?,
         Typed::PrintQuery { query, day } => ask(rt, case, number, query, *day, db, report)?,
-        Typed::PrintName { .. } | Typed::Tables | Typed::Explain { .. } | Typed::Save { .. } => {}
+        Typed::PrintName { .. }
+        | Typed::Tables
+        | Typed::Explain { .. }
+        | Typed::Save { .. }
+        | Typed::Valid { .. } => {}
         _ => return Ok(false),
     }
     Ok(true)
