@@ -15,10 +15,11 @@ use Rattle.og_query.specs.declared.typed.Typed.{Typed}
 use Rattle.og_query.specs.declared.typed.Typed.TheVariants as t
 use Rattle.og_db.specs.Held.{Held, found, made_of, all_made_of}
 use Rattle.og_db.specs.Database.{Relation, names_at}
-use Rattle.og_db.specs.Effects.{Effect, Store, World, on_names, saved, reopened, opened, imported, kept_as, with_file, with_name, ordinary_statement, world_of_day, size_after, sizes_after}
-use Rattle.og_db.specs.Runs.{IsWithin, AreWithin, IsWorldOf, sizes_at}
-use Rattle.og_db.specs.Statements.{names_after, name_sizes_after}
-use Rattle.og_db.proofs.SizeLemmas.{within-refl, within-trans, within-push, within-after, within-added}
+use Rattle.og_db.specs.Effects.{Effect, Store, World, on_names, saved, reopened, opened, imported, kept_as, with_file, with_name, statement_names, ordinary_statement, world_of_day, statement_sizes, size_after, sizes_after}
+use Rattle.og_db.specs.Live.{Live}
+use Rattle.og_db.specs.Runs.{IsWithin, AreWithin, IsWorldOf, sizes_at, live_of}
+use Rattle.og_db.proofs.LiveLemmas.{live_on_day, within-statement}
+use Rattle.og_db.proofs.SizeLemmas.{within-refl, within-trans, within-push, within-added}
 use Rattle.og_db.proofs.WorldLemmas.{all_made_of-push, found-made_of}
 
 -- ---- what is made of what is held
@@ -78,13 +79,17 @@ within-with_name name None (Some m) a b both v = absurd both
 within-with_name name (Some h) None a b both v = absurd both
 within-with_name name (Some h) (Some m) a b both v = within-push a b (kept_as name h) (kept_as name m) v (within-kept_as name h m both)
 
+-- where the same names are live, a statement of names leaves no more rows where there were no more
+within-lived : (a b : Store ℕ) → a.live ≡ b.live → AreWithin a.names b.names → (stmt : Typed) → AreWithin (statement_sizes a.live a.names stmt) (statement_sizes b.live b.names stmt)
+within-lived a b live v stmt = subst (λ l. AreWithin (statement_sizes a.live a.names stmt) (statement_sizes l b.names stmt)) live (within-statement a.live a.names b.names v stmt)
+
 -- a statement leaves no more rows of names where there were no more
-within-names : (a b : Store ℕ) → AreWithin a.names b.names → AreWithin a.files b.files → (e : Effect) → AreWithin (size_after a e).names (size_after b e).names
-within-names a b v w (on_names stmt) = within-after a.names b.names v stmt
-within-names a b v w (saved name file) = v
-within-names a b v w (reopened name file) = within-with_name name (found a.files file) (found b.files file) a.names b.names (within-found file a.files b.files w) v
-within-names a b v w (opened name columns rel) = within-push a.names b.names _ _ v (record { name = refl; what = refl; rows = omega arith })
-within-names a b v w (imported name rows) = within-after a.names b.names v (t.Insert name rows)
+within-names : (a b : Store ℕ) → a.live ≡ b.live → AreWithin a.names b.names → AreWithin a.files b.files → (e : Effect) → AreWithin (size_after a e).names (size_after b e).names
+within-names a b live v w (on_names stmt) = within-lived a b live v stmt
+within-names a b live v w (saved name file) = v
+within-names a b live v w (reopened name file) = within-with_name name (found a.files file) (found b.files file) a.names b.names (within-found file a.files b.files w) v
+within-names a b live v w (opened name columns rel) = within-push a.names b.names _ _ v (record { name = refl; what = refl; rows = omega arith })
+within-names a b live v w (imported name rows) = within-lived a b live v (t.Insert name rows)
 
 -- and no more rows of files
 within-files : (a b : Store ℕ) → AreWithin a.names b.names → AreWithin a.files b.files → (e : Effect) → AreWithin (size_after a e).files (size_after b e).files
@@ -96,69 +101,70 @@ within-files a b v w (imported name rows) = w
 
 -- ---- one statement more
 
--- the names and files of one day
-abbrev stands_for : ℤ → List (Held Relation) → List (Held Relation) → World
-stands_for d db files = record { names = names_at d db; files = names_at d files }
+-- the names and files of one day, where those names are live
+abbrev stands_for : ℤ → List (Held Relation) → List (Held Relation) → List Live → World
+stands_for d db files live = record { names = names_at d db; files = names_at d files; live = live }
 
 -- how many rows each has
-abbrev sizes_of : List (Held Relation) → List (Held Relation) → Store ℕ
-sizes_of db files = record { names = sizes_at db; files = sizes_at files }
+abbrev sizes_of : List (Held Relation) → List (Held Relation) → List Live → Store ℕ
+sizes_of db files live = record { names = sizes_at db; files = sizes_at files; live = live }
 
 -- what was the world of statements, changed as one more says, is the world of these and that one
-stepped : (e : Effect) (db files db' files' : List (Held Relation))
-    → ((d : ℤ) → IsRefDay d → names_at d db' ≡ (ordinary_statement d (stands_for d db files) e).names)
-    → ((d : ℤ) → IsRefDay d → names_at d files' ≡ (ordinary_statement d (stands_for d db files) e).files)
-    → AreWithin (sizes_at db') (size_after (sizes_of db files) e).names → AreWithin (sizes_at files') (size_after (sizes_of db files) e).files
-    → (effects : List Effect) → IsWorldOf db files effects → IsWorldOf db' files' (effects ++ e ∷ [])
-stepped e db files db' files' names_law files_law names_size files_size effects is = record {
+stepped : (e : Effect) (db files db' files' : List (Held Relation)) (effects : List Effect)
+    → ((d : ℤ) → IsRefDay d → names_at d db' ≡ (ordinary_statement d (stands_for d db files (live_of effects)) e).names)
+    → ((d : ℤ) → IsRefDay d → names_at d files' ≡ (ordinary_statement d (stands_for d db files (live_of effects)) e).files)
+    → AreWithin (sizes_at db') (size_after (sizes_of db files (live_of effects)) e).names → AreWithin (sizes_at files') (size_after (sizes_of db files (live_of effects)) e).files
+    → IsWorldOf db files effects → IsWorldOf db' files' (effects ++ e ∷ [])
+stepped e db files db' files' effects names_law files_law names_size files_size is = record {
   names = λ d day. names_law d day ∙ ap (λ w. (ordinary_statement d w e).names) (before d day) ∙ sym (ap (λ w. w.names) (after d));
   saved = λ d day. files_law d day ∙ ap (λ w. (ordinary_statement d w e).files) (before d day) ∙ sym (ap (λ w. w.files) (after d));
   sizes = subst (λ s. AreWithin (sizes_at db') s.names) (sym sizes)
-      (within-trans (sizes_at db') _ _ names_size (within-names (sizes_of db files) (sizes_after effects) is.sizes is.saved_sizes e));
+      (within-trans (sizes_at db') _ _ names_size (within-names (sizes_of db files (live_of effects)) (sizes_after effects) refl is.sizes is.saved_sizes e));
   saved_sizes = subst (λ s. AreWithin (sizes_at files') s.files) (sym sizes)
-      (within-trans (sizes_at files') _ _ files_size (within-files (sizes_of db files) (sizes_after effects) is.sizes is.saved_sizes e));
+      (within-trans (sizes_at files') _ _ files_size (within-files (sizes_of db files (live_of effects)) (sizes_after effects) is.sizes is.saved_sizes e));
 }
   where
-    before : (d : ℤ) → IsRefDay d → stands_for d db files ≡ world_of_day d effects
-    before d day = λ i. record { names = is.names d day i; files = is.saved d day i }
+    before : (d : ℤ) → IsRefDay d → stands_for d db files (live_of effects) ≡ world_of_day d effects
+    before d day = λ i. record { names = is.names d day i; files = is.saved d day i; live = sym (live_on_day d effects) i }
 
     after : (d : ℤ) → world_of_day d (effects ++ e ∷ []) ≡ ordinary_statement d (world_of_day d effects) e
-    after d = fold-append (ordinary_statement d) (record { names = []; files = [] }) effects (e ∷ [])
+    after d = fold-append (ordinary_statement d) (record { names = []; files = []; live = [] }) effects (e ∷ [])
 
     sizes : sizes_after (effects ++ e ∷ []) ≡ size_after (sizes_after effects) e
-    sizes = fold-append size_after (record { names = []; files = [] }) effects (e ∷ [])
+    sizes = fold-append size_after (record { names = []; files = []; live = [] }) effects (e ∷ [])
 
 -- a statement that acts on names alone
-pub one_more : (old new files : List (Held Relation)) (stmt : Typed) → ((d : ℤ) → IsRefDay d → names_at d new ≡ names_after d (names_at d old) stmt)
-    → AreWithin (sizes_at new) (name_sizes_after (sizes_at old) stmt) → (effects : List Effect) → IsWorldOf old files effects → IsWorldOf new files (effects ++ on_names stmt ∷ [])
-one_more old new files stmt law size = stepped (on_names stmt) old files new files law (λ d day. refl) size (within-refl (sizes_at files))
+pub one_more : (old new files : List (Held Relation)) (stmt : Typed) (effects : List Effect)
+    → ((d : ℤ) → IsRefDay d → names_at d new ≡ statement_names d (live_of effects) (names_at d old) stmt)
+    → AreWithin (sizes_at new) (statement_sizes (live_of effects) (sizes_at old) stmt) → IsWorldOf old files effects → IsWorldOf new files (effects ++ on_names stmt ∷ [])
+one_more old new files stmt effects law size = stepped (on_names stmt) old files new files effects law (λ d day. refl) size (within-refl (sizes_at files))
 
 -- an IMPORT
-pub imported_more : (old new files : List (Held Relation)) (name : List ℕ) (rows : List (List Value))
-    → ((d : ℤ) → IsRefDay d → names_at d new ≡ names_after d (names_at d old) (t.Insert name rows))
-    → AreWithin (sizes_at new) (name_sizes_after (sizes_at old) (t.Insert name rows)) → (effects : List Effect) → IsWorldOf old files effects
+pub imported_more : (old new files : List (Held Relation)) (name : List ℕ) (rows : List (List Value)) (effects : List Effect)
+    → ((d : ℤ) → IsRefDay d → names_at d new ≡ statement_names d (live_of effects) (names_at d old) (t.Insert name rows))
+    → AreWithin (sizes_at new) (statement_sizes (live_of effects) (sizes_at old) (t.Insert name rows)) → IsWorldOf old files effects
     → IsWorldOf new files (effects ++ imported name rows ∷ [])
-imported_more old new files name rows law size = stepped (imported name rows) old files new files law (λ d day. refl) size (within-refl (sizes_at files))
+imported_more old new files name rows effects law size = stepped (imported name rows) old files new files effects law (λ d day. refl) size (within-refl (sizes_at files))
 
 -- a SAVE
 pub saved_more : (db files : List (Held Relation)) (name file : List ℕ) (effects : List Effect) → IsWorldOf db files effects
     → IsWorldOf db (with_file file (found db name) files) (effects ++ saved name file ∷ [])
-saved_more db files name file =
-    stepped (saved name file) db files db (with_file file (found db name) files) (λ d day. refl) (λ d day. file-made_of (λ rel. relation_at row_order row_at rel d) name file db files)
+saved_more db files name file effects =
+    stepped (saved name file) db files db (with_file file (found db name) files) effects (λ d day. refl) (λ d day. file-made_of (λ rel. relation_at row_order row_at rel d) name file db files)
     (within-refl (sizes_at db)) (subst (λ sizes. AreWithin sizes (with_file file (found (sizes_at db) name) (sizes_at files))) (sym (file-made_of length name file db files)) (within-refl _))
 
 -- an OPEN of a file that was saved
 pub reopened_more : (db files : List (Held Relation)) (name file : List ℕ) (effects : List Effect) → IsWorldOf db files effects
     → IsWorldOf (with_name name (found files file) db) files (effects ++ reopened name file ∷ [])
-reopened_more db files name file =
-    stepped (reopened name file) db files (with_name name (found files file) db) files (λ d day. name-made_of (λ rel. relation_at row_order row_at rel d) name file db files) (λ d day. refl)
+reopened_more db files name file effects =
+    stepped (reopened name file) db files (with_name name (found files file) db) files effects (λ d day. name-made_of (λ rel. relation_at row_order row_at rel d) name file db files) (λ d day. refl)
     (subst (λ sizes. AreWithin sizes (with_name name (found (sizes_at files) file) (sizes_at db))) (sym (name-made_of length name file db files)) (within-refl _)) (within-refl (sizes_at files))
 
 -- an OPEN of another file
 pub opened_more : (db files : List (Held Relation)) (name : List ℕ) (columns : List Column) (rel : Relation) (effects : List Effect) → IsWorldOf db files effects
     → IsWorldOf (db ++ record { name = name; what = what.Kept; columns = columns; rows = rel } ∷ []) files (effects ++ opened name columns rel ∷ [])
-opened_more db files name columns rel =
-    stepped (opened name columns rel) db files (db ++ held ∷ []) files (λ d day. all_made_of-push (λ rel. relation_at row_order row_at rel d) db held) (λ d day. refl)
+opened_more db files name columns rel effects =
+    stepped (opened name columns rel) db files (db ++ held ∷ []) files effects (λ d day. all_made_of-push (λ rel. relation_at row_order row_at rel d) db held) (λ d day. refl)
     (within-added db held (made_of length held) (record { name = refl; what = refl; rows = omega arith })) (within-refl (sizes_at files))
   where
     held : Held Relation

@@ -1,5 +1,5 @@
 -- The entries that the code holds, and the names that contracts see of them.
-use Rattle.std.proofs.Common.{◌≡◌, ◌++◌, ℕ, zero, suc, Bool, true, false, cond, not, List, [], ◌∷◌, Option, Some, None, map, position, Result, Ok, Err, OnOk, OnErr, is_some, if◌then◌else◌, refl, sym, ap, ◌∙◌, subst, true≢false}
+use Rattle.std.proofs.Common.{◌≡◌, ◌++◌, ℕ, zero, suc, Bool, true, false, cond, not, List, [], ◌∷◌, Option, Some, None, map, filter, position, Result, Ok, Err, OnOk, OnErr, is_some, if◌then◌else◌, refl, sym, ap, ◌∙◌, subst, true≢false}
 use Rattle.std.specs.Cmp.Lexicographic.{same_text}
 use Rattle.std.specs.List.{All, AllByRecursion, IsDistinct}
 use Rattle.std.specs.Map.{lookup, keys_of, remove_entry}
@@ -13,9 +13,11 @@ use Rattle.indexmap.proofs.MapLemmas.{Found-position, insert_entry-first, some_i
 use Rattle.og_value.specs.declared.kind.What.{What}
 use Rattle.og_value.specs.declared.kind.What.TheVariants as what
 use Rattle.og_value.specs.declared.schema.Column.{Column}
-use Rattle.og_db.specs.Database.{Relation, IsTableOf}
+use Rattle.og_db.specs.Database.{Relation}
 use Rattle.og_db.specs.Entries.{held_of}
 use Rattle.og_db.specs.Held.{Held, described, found, known_of, rows_of, made_of, changed_at, without}
+use Rattle.og_db.specs.Live.{kept_at, kept_with}
+use Rattle.og_db.specs.Runs.{is_stored, stored}
 use Rattle.og_db.specs.declared.holding.Holding.{Holding}
 use Rattle.og_db.proofs.WorldLemmas.{changed_same}
 
@@ -123,30 +125,34 @@ module _ (name : List ℕ) where
       at true here rest = sym (without_none es (none_behind e es here apart))
       at false here rest = ap (λ hs. held_of e ∷ hs) rest
 
-  module _ (f : Relation → Relation) where
+  module _ (f : Held Relation → Held Relation) where
+    -- the names, where that one is changed
+    abbrev changed : List (Held Relation) → List (Held Relation)
+    changed hs = map (λ h. if bytes_eq name h.name then f h else h) hs
+
     -- where no key is the name, nothing is changed
-    changed_none : (es : List Entry) → NoneNamed es → changed_at name f (map held_of es) ≡ map held_of es
+    changed_none : (es : List Entry) → NoneNamed es → changed (map held_of es) ≡ map held_of es
     changed_none [] none = refl
     changed_none (e ∷ es) none =
-        ap (λ b. (if b then made_of f (held_of e) else held_of e) ∷ changed_at name f (map held_of es)) none.0 ∙ ap (λ hs. held_of e ∷ hs) (changed_none es none.1)
+        ap (λ b. (if b then f (held_of e) else held_of e) ∷ changed (map held_of es)) none.0 ∙ ap (λ hs. held_of e ∷ hs) (changed_none es none.1)
 
-    module _ (old new : Holding) (made : (n : List ℕ) → held_of (n, new) ≡ made_of f (held_of (n, old))) where
-      inserted : (es : List Entry) → lookup (bytes_eq name) es ≡ Some old → IsDistinct bytes_eq (keys_of es) → map held_of (insert_entry bytes_eq es name new) ≡ changed_at name f (map held_of es)
+    module _ (old new : Holding) (made : (n : List ℕ) → held_of (n, new) ≡ f (held_of (n, old))) where
+      inserted : (es : List Entry) → lookup (bytes_eq name) es ≡ Some old → IsDistinct bytes_eq (keys_of es) → map held_of (insert_entry bytes_eq es name new) ≡ changed (map held_of es)
       inserted [] is apart = cc
       inserted (e ∷ es) is apart = at (bytes_eq name e.0) refl is (λ is. inserted es is (IsDistinct-tail bytes_eq e.0 (keys_of es) apart))
         where
           at : (b : Bool) → bytes_eq name e.0 ≡ b → cond b (Some e.1) (lookup (bytes_eq name) es) ≡ Some old
-              → (lookup (bytes_eq name) es ≡ Some old → map held_of (insert_entry bytes_eq es name new) ≡ changed_at name f (map held_of es))
-              → map held_of (cond b ((e.0, new) ∷ es) (e ∷ insert_entry bytes_eq es name new)) ≡ (if b then made_of f (held_of e) else held_of e) ∷ changed_at name f (map held_of es)
+              → (lookup (bytes_eq name) es ≡ Some old → map held_of (insert_entry bytes_eq es name new) ≡ changed (map held_of es))
+              → map held_of (cond b ((e.0, new) ∷ es) (e ∷ insert_entry bytes_eq es name new)) ≡ (if b then f (held_of e) else held_of e) ∷ changed (map held_of es)
           at true here is rest =
               let old_is : e.1 ≡ old = cc is in
-              (λ i. (made e.0 ∙ ap (λ o. made_of f (held_of (e.0, o))) (sym old_is)) i ∷ sym (changed_none es (none_behind e es here apart)) i)
+              (λ i. (made e.0 ∙ ap (λ o. f (held_of (e.0, o))) (sym old_is)) i ∷ sym (changed_none es (none_behind e es here apart)) i)
           at false here is rest = ap (λ hs. held_of e ∷ hs) (rest is)
 
       -- another holding at the place of a name is a change of that name
-      pub changed_at-entries : (es : List Entry) (i : ℕ) → position (bytes_eq name) (keys_of es) ≡ Some i → lookup (bytes_eq name) es ≡ Some old → IsDistinct bytes_eq (keys_of es)
-          → map held_of (set_value_at es i new) ≡ changed_at name f (map held_of es)
-      changed_at-entries es i at is apart =
+      pub changed-entries : (es : List Entry) (i : ℕ) → position (bytes_eq name) (keys_of es) ≡ Some i → lookup (bytes_eq name) es ≡ Some old → IsDistinct bytes_eq (keys_of es)
+          → map held_of (set_value_at es i new) ≡ changed (map held_of es)
+      changed-entries es i at is apart =
           ap (map held_of) (sym (insert_entry-first bytes_eq name new es i (Found-position (bytes_eq name) es i at).first)) ∙ inserted es is apart
 
 module _ (name : List ℕ) (db : List (Held Relation)) (es : List Entry) (seen : map held_of es ≡ db) (i : ℕ) (old : Holding)
@@ -155,7 +161,7 @@ module _ (name : List ℕ) (db : List (Held Relation)) (es : List Entry) (seen :
   pub with_relation : (f : Relation → Relation) (rel : Relation) → rel ≡ f old.rel → IsDistinct bytes_eq (keys_of es)
       → map held_of (set_value_at es i (record { what = old.what; schema = old.schema; rel = rel })) ≡ changed_at name f db
   with_relation f rel made apart =
-      changed_at-entries name f old (record { what = old.what; schema = old.schema; rel = rel }) (λ n j. record { name = n; what = old.what; columns = old.schema; rows = made j }) es i at is apart
+      changed-entries name (made_of f) old (record { what = old.what; schema = old.schema; rel = rel }) (λ n j. record { name = n; what = old.what; columns = old.schema; rows = made j }) es i at is apart
       ∙ ap (changed_at name f) seen
 
   -- and the same relation there is no change
@@ -163,14 +169,28 @@ module _ (name : List ℕ) (db : List (Held Relation)) (es : List Entry) (seen :
       → map held_of (set_value_at es i (record { what = old.what; schema = old.schema; rel = rel })) ≡ db
   with_same_relation rel same apart = with_relation (λ rows. rows) rel same apart ∙ changed_same name db
 
+  -- and a kept result with another relation is that name as one
+  pub with_kept : (rel : Relation) → IsDistinct bytes_eq (keys_of es) → map held_of (set_value_at es i (record { what = what.Kept; schema = old.schema; rel = rel })) ≡ kept_at name rel db
+  with_kept rel apart =
+      changed-entries name (kept_with rel) old (record { what = what.Kept; schema = old.schema; rel = rel }) (λ n. refl) es i at is apart ∙ ap (kept_at name rel) seen
+
+-- entries that are taken out for what they are
+pub stored-entries : (es : List Entry) → map held_of (filter (λ e. is_stored e.1.what) es) ≡ stored (map held_of es)
+stored-entries [] = refl
+stored-entries (e ∷ es) =
+    elim (is_stored e.1.what) as (λ b. map held_of (cond b (e ∷ filter (λ e. is_stored e.1.what) es) (filter (λ e. is_stored e.1.what) es)) ≡ cond b (held_of e ∷ stored (map held_of es)) (stored (map held_of es))) [
+      | true ↦ ap (λ hs. held_of e ∷ hs) (stored-entries es)
+      | false ↦ stored-entries es
+    ]
+
 -- what holds of each holding holds of the one that a name has
 pub All-named : (P : Holding → Type 0) (es : List Entry) (name : List ℕ) (h : Holding) → lookup (bytes_eq name) es ≡ Some h → All (λ e. P e.1) es → P h
 All-named P es name h is all = subst (λ o. IfSome o P) is (All-lookup P (bytes_eq name) es all)
 
-module _ (name : List ℕ) (db : List (Held Relation)) (es : List Entry) (seen : map held_of es ≡ db) (columns : List Column) (known : IsTableOf columns db name) where
-  -- the columns of a table are those that the map has there
+module _ (name : List ℕ) (db : List (Held Relation)) (es : List Entry) (seen : map held_of es ≡ db) {w : What} (columns : List Column) (known : known_of db name ≡ Some (w, columns)) where
+  -- the columns of a name are those that the map has there
   pub has_columns : (h : Holding) → lookup (bytes_eq name) es ≡ Some h → columns ≡ h.schema
-  has_columns h is = second {a = (what.Table, columns)} {b = what_and_columns h} (sym known ∙ ap (λ db. known_of db name) (sym seen) ∙ known_of-entries es name ∙ ap (option_map what_and_columns) is)
+  has_columns h is = second {a = (w, columns)} {b = what_and_columns h} (sym known ∙ ap (λ db. known_of db name) (sym seen) ∙ known_of-entries es name ∙ ap (option_map what_and_columns) is)
     where
       inside : {A : Type 0} {a b : A} → Some a ≡ Some b → a ≡ b
       inside e = cc
@@ -182,7 +202,7 @@ module _ (name : List ℕ) (db : List (Held Relation)) (es : List Entry) (seen :
   pub is_there : {G : Type 0} → position (bytes_eq name) (keys_of es) ≡ None → G
   is_there none = nowhere (lookup (bytes_eq name) es) (sym (known_of-entries es name) ∙ ap (λ db. known_of db name) seen ∙ known) (sym (some_index (bytes_eq name) es) ∙ ap is_some none)
     where
-      nowhere : {G : Type 0} (o : Option Holding) → option_map what_and_columns o ≡ Some (what.Table, columns) → is_some o ≡ false → G
+      nowhere : {G : Type 0} (o : Option Holding) → option_map what_and_columns o ≡ Some (w, columns) → is_some o ≡ false → G
       nowhere None e none = cc
       nowhere (Some h) e none = absurd (true≢false none)
 

@@ -1,6 +1,9 @@
+pub mod CopyLemmas
 pub mod EffectLemmas
 pub mod EntryLemmas
 pub mod FitLemmas
+pub mod LiveLemmas
+pub mod LiveNames
 pub mod SizeLemmas
 pub mod StatementLemmas
 pub mod WorldLemmas

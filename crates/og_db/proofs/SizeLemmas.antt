@@ -164,7 +164,7 @@ within-after a b v (t.OpenFile name file) = v
 within-after a b v (t.ImportFile name file) = v
 within-after a b v (t.Explain query) = v
 within-after a b v (t.Valid name day) = v
-within-after a b v (t.Live name query) = v
+within-after a b v (t.Live name query) = within-push a b _ _ v (record { name = refl; what = refl; rows = query_more (named_sizes a) (named_sizes b) (λ n. within-named n a b v) query })
 
 -- the sizes of names with one more that has no more rows
 pub within-added : (old : List (Held Relation)) (h : Held Relation) (most : Held ℕ) → IsWithin (made_of length h) most → AreWithin (sizes_at (old ++ h ∷ [])) (sizes_at old ++ most ∷ [])

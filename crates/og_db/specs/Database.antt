@@ -28,6 +28,10 @@ names_at d db = all_made_of (λ rel. relation_at row_order row_at rel d) db
 abbrev pub IsTableOf : List Column → List (Held Relation) → List ℕ → Type 0
 IsTableOf columns db name = known_of db name ≡ Some (what.Table, columns)
 
+-- a live result of these columns is held under the name
+abbrev pub IsLiveOf : List Column → List (Held Relation) → List ℕ → Type 0
+IsLiveOf columns db name = known_of db name ≡ Some (what.Live, columns)
+
 -- all names but that one have the relation that they had
 abbrev pub AreKept : List ℕ → List (Held Relation) → List (Held Relation) → Type 0
 AreKept name old new = (other : List ℕ) → ¬ (other ≡ name) → rows_of new other ≡ rows_of old other

@@ -4,5 +4,6 @@ pub mod Entries
 pub mod Fits
 pub mod Held
 pub mod Insertion
+pub mod Live
 pub mod Runs
 pub mod Statements

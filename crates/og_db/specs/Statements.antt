@@ -30,7 +30,7 @@ named_rows names name = or_else [] (rows_of names name)
 abbrev pub assigned : ℤ → List Assign → Fixed → Fixed
 assigned d sets row = fold (λ new one. set new one.column (meaning d row one.expr)) row sets
 
--- whether a statement acts on names alone: all do but those of files; LIVE is not built
+-- whether a statement acts on names alone: all do but those of files
 abbrev pub is_of_names : Typed → Bool
 is_of_names (t.Create name columns) = true
 is_of_names (t.Insert name tuples) = true
@@ -46,13 +46,13 @@ is_of_names (t.OpenFile name file) = false
 is_of_names (t.ImportFile name file) = false
 is_of_names (t.Explain query) = true
 is_of_names (t.Valid name day) = true
-is_of_names (t.Live name query) = false
+is_of_names (t.Live name query) = true
 
 -- what stands for the effect of a statement that does not act on names alone: none, since none is asked for here
 abbrev pub unbuilt : {A : Type 0} → A → A
 unbuilt before = before
 
--- the names after a statement that acts on names alone
+-- the names after a statement that acts on names alone; what becomes of live results stands in Effects
 abbrev pub names_after : ℤ → Names → Typed → Names
 names_after d names (t.Create name columns) = names ++ record { name = name; what = what.Table; columns = columns; rows = [] } ∷ []
 names_after d names (t.Insert name tuples) = changed_at name (λ rows. set_of row_order (rows ++ map (λ tuple. row_at tuple d) tuples)) names
@@ -70,13 +70,14 @@ names_after d names (t.Valid name day) = names
 names_after d names (t.Save name file) = unbuilt names
 names_after d names (t.OpenFile name file) = unbuilt names
 names_after d names (t.ImportFile name file) = unbuilt names
-names_after d names (t.Live name query) = unbuilt names
+names_after d names (t.Live name query) =
+    names ++ record { name = name; what = what.Live; columns = query.first.schema; rows = ordinary_query d (named_rows names) query } ∷ []
 
 -- how many rows each name has; an unknown name has none
 abbrev pub named_sizes : List (Held ℕ) → Sizes
 named_sizes held name = or_else 0 (rows_of held name)
 
--- how many rows each name has at most after a statement that acts on names alone, where it had at most so many before
+-- how many rows each name has at most after a statement that acts on names alone, where it had at most so many before; live results as above
 abbrev pub name_sizes_after : List (Held ℕ) → Typed → List (Held ℕ)
 name_sizes_after sizes (t.Create name columns) = sizes ++ record { name = name; what = what.Table; columns = columns; rows = 0 } ∷ []
 name_sizes_after sizes (t.Insert name tuples) = changed_at name (λ n. n + length tuples) sizes
@@ -92,4 +93,4 @@ name_sizes_after sizes (t.Valid name day) = sizes
 name_sizes_after sizes (t.Save name file) = unbuilt sizes
 name_sizes_after sizes (t.OpenFile name file) = unbuilt sizes
 name_sizes_after sizes (t.ImportFile name file) = unbuilt sizes
-name_sizes_after sizes (t.Live name query) = unbuilt sizes
+name_sizes_after sizes (t.Live name query) = sizes ++ record { name = name; what = what.Live; columns = query.first.schema; rows = query_size (named_sizes sizes) query } ∷ []

@@ -1,5 +1,5 @@
 //! The names of a run and what they hold.
-ghost use Rattle.std.specs.Prelude.{◌≡◌, ◌++◌, ◌<◌, ◌≤◌, ℕ, ℤ, List, [], ◌∷◌, Some, IfOk, OnOk, OnErr, length, map, slice_index_or};
+ghost use Rattle.std.specs.Prelude.{◌≡◌, ◌++◌, ◌+◌, ◌<◌, ◌≤◌, ℕ, ℤ, List, [], ◌∷◌, Some, IfOk, OnOk, OnErr, length, map, slice_index_or, take};
 ghost use Rattle.std.specs.List.{All, IsDistinct};
 ghost use Rattle.std.specs.Str.{bytes_eq};
 ghost use Rattle.og_base.specs.Calendar.{IsRefDay};
@@ -15,9 +15,11 @@ ghost use Rattle.og_query.specs.declared.query.Query.{Query};
 ghost use Rattle.og_query.specs.declared.typed.Typed.TheVariants as t;
 ghost use Rattle.og_db.specs.Fits.{KeepsKinds};
 ghost use Rattle.og_db.specs.Held.{Held, known_of, rows_of, changed_at, without};
-ghost use Rattle.og_db.specs.Runs.{AreWithin, sizes_at};
+ghost use Rattle.og_db.specs.Insertion.{on_all_days};
+ghost use Rattle.og_db.specs.Live.{kept_at};
+ghost use Rattle.og_db.specs.Runs.{AreWithin, is_stored, sizes_at, stored};
 ghost use Rattle.og_db.specs.Statements.{named_rows, named_sizes, names_after, name_sizes_after};
-ghost use Rattle.og_db.specs.Database.{Relation, HaveKinds, IsTableOf, AreKept, names_at};
+ghost use Rattle.og_db.specs.Database.{Relation, HaveKinds, IsTableOf, IsLiveOf, AreKept, names_at};
 
 use crate::assignments::Assignments;
 use crate::holding::Holding;
@@ -63,6 +65,33 @@ impl Db {
         }
     }
 
+    /// The same names once more, with the same relations. Refused only for want of memory.
+    pub fn copy(&self, alloc: Global) -> Result<Db, NoMemory>
+        ensures { IfOk result (λ db. db ≡ self.now) }
+    {
+        let mut db = Db::new(alloc);
+        'names: for i in 0..self.names.len() {
+            self.copy_name(i, &mut db)?;
+        }
+        Ok(db)
+    }
+
+    // Adds the name at that place to a copy of those before it.
+    fn copy_name(&self, i: usize, db: &mut Db) -> Result<(), NoMemory>
+        requires within { i < length self.now }
+        requires before { db.old ≡ take i self.now }
+        ensures { OnOk result (db.new ≡ take (i + 1) self.now) }
+    {
+        self.names_differ();
+        self.rows_fit();
+        let Some((name, holding)) = self.names.get_index(i) else {
+            unreachable!();
+        };
+        let rel = holding.rel.copy()?;
+        let schema = holding.schema.copy()?;
+        db.enter(name.copy()?, holding.what, schema, rel)
+    }
+
     /// Adds a table without rows, as the last name. Refused only for want of memory, and then nothing
     /// has changed.
     pub fn create(&mut self, name: Name, schema: Schema) -> Result<(), NoMemory>
@@ -93,8 +122,43 @@ impl Db {
         self.enter(name, What::Kept, schema, rel)
     }
 
-    // Adds a name that is new, as the last.
-    fn enter(
+    /// Adds a live result, as the last name, and holds no rows for it: those are what its query answers.
+    /// Refused only for want of memory, and then nothing has changed.
+    pub fn live(&mut self, name: Name, schema: Schema) -> Result<(), NoMemory>
+        requires { IsNew (known_of self.old) name }
+        ensures added { OnOk result (self.new ≡ self.old ++ record { name = name; what = what.Live; columns = schema; rows = [] } ∷ []) }
+        ensures refused { OnErr result (self.new ≡ self.old) }
+    {
+        let rel = Rel::new(*self.names.allocator());
+        self.enter(name, What::Live, schema, rel)
+    }
+
+    /// Makes a live result a kept one with these rows. Its place in the order stays. Takes no memory.
+    pub fn settle(&mut self, name: &Name, rel: Rel<Row>)
+        requires { (columns : List Column) × IsLiveOf columns self.old name.now × HaveKinds columns rel }
+        ensures { self.new ≡ kept_at name.now rel self.old }
+    {
+        if let Some(at) = self.names.get_index_of(name) {
+            let held = &mut self.names[at];
+            held.what = What::Kept;
+            held.rel = rel;
+        }
+    }
+
+    /// Takes all live results out. The others keep their order. Takes no memory.
+    pub fn drop_live(&mut self)
+        ensures { self.new ≡ stored self.old }
+    {
+        self.names.retain(
+            |_name: &Name, held: &mut Holding| -> bool
+                ensures { (result ≡ is_stored held.old.what) × (held.new ≡ held.old) }
+            { held.what != What::Live },
+        );
+    }
+
+    /// Adds a name with what it is, its columns and its rows, as the last. Refused only for want of memory,
+    /// and then nothing has changed.
+    pub fn enter(
         &mut self,
         name: Name,
         what: What,
@@ -136,6 +200,7 @@ impl Db {
     /// nothing has changed.
     pub fn insert(&mut self, name: &Name, rows: Vec<Row>) -> Result<(), NoMemory>
         requires table { (columns : List Column) × IsTableOf columns self.old name.now × All (IsFitRow columns) rows.items }
+        ensures added { OnOk result (self.new ≡ changed_at name.now (λ rel. rel ++ on_all_days rows.items) self.old) }
         ensures law { OnOk result ((d : ℤ) → IsRefDay d →
             names_at d self.new ≡ names_after d (names_at d self.old) (t.Insert name.now rows.items)) }
         ensures known { OnOk result ((other : List ℕ) → known_of self.new other ≡ known_of self.old other) }

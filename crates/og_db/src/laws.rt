@@ -14,9 +14,10 @@ ghost use Rattle.og_query.specs.declared.typed.Typed.TheVariants as t;
 ghost use Rattle.og_db.specs.Database.{Relation, HaveKinds, names_at};
 ghost use Rattle.og_db.specs.Fits.{IsFitFixed};
 ghost use Rattle.og_db.specs.Held.{Held, found, known_of, made_of};
-ghost use Rattle.og_db.specs.Effects.{Effect, on_names, saved, reopened, opened, imported, with_file, with_name};
-ghost use Rattle.og_db.specs.Runs.{AreWithin, IsWorldOf, known_after, sizes_at};
-ghost use Rattle.og_db.specs.Statements.{names_after, name_sizes_after};
+ghost use Rattle.og_db.specs.Effects.{Effect, on_names, saved, reopened, opened, imported, with_file, with_name, statement_names, statement_sizes};
+ghost use Rattle.og_db.specs.Live.{live_after};
+ghost use Rattle.og_db.specs.Runs.{AreWithin, IsWorldOf, known_after, live_of, sizes_at};
+ghost use Rattle.og_db.specs.Statements.{Names, names_after, name_sizes_after};
 
 /// A database without names, and no file that was saved, are the world of each day before any statement.
 pub fn no_statements()
@@ -28,12 +29,19 @@ pub fn known_names()
     ensures { (db files : List (Held Relation)) (effects : List Effect) → IsWorldOf db files effects → known_of db ≡ known_after effects }
 {}
 
-/// What was the world of each day after statements, where the database was changed as one more says that acts
-/// on names alone, is the world of each day after these and that one. Names are within their own sizes.
+/// What was the world of each day after statements, where all names were changed as one more says that acts on
+/// names alone, with what becomes of the live ones, is the world of each day after these and that one. Where no
+/// name is live before that statement and after it, it is what it does to the names. Names are within their own
+/// sizes.
 pub fn one_statement_more()
-    ensures done { (old new files : List (Held Relation)) (stmt : Typed) → ((d : ℤ) → IsRefDay d → names_at d new ≡ names_after d (names_at d old) stmt) →
-        AreWithin (sizes_at new) (name_sizes_after (sizes_at old) stmt) → (effects : List Effect) → IsWorldOf old files effects → IsWorldOf new files (effects ++ on_names stmt ∷ []) }
+    ensures done { (old new files : List (Held Relation)) (stmt : Typed) (effects : List Effect) →
+        ((d : ℤ) → IsRefDay d → names_at d new ≡ statement_names d (live_of effects) (names_at d old) stmt) →
+        AreWithin (sizes_at new) (statement_sizes (live_of effects) (sizes_at old) stmt) → IsWorldOf old files effects → IsWorldOf new files (effects ++ on_names stmt ∷ []) }
     ensures same { (sizes : List (Held ℕ)) → AreWithin sizes sizes }
+    ensures no_live_names { (effects : List Effect) (stmt : Typed) → live_of effects ≡ [] → live_after [] stmt ≡ [] →
+        (d : ℤ) (names : Names) → statement_names d (live_of effects) names stmt ≡ names_after d names stmt }
+    ensures no_live_sizes { (effects : List Effect) (stmt : Typed) → live_of effects ≡ [] → live_after [] stmt ≡ [] →
+        (sizes : List (Held ℕ)) → statement_sizes (live_of effects) sizes stmt ≡ name_sizes_after sizes stmt }
 {}
 
 /// The same of one statement more that acts on a file: a file that now holds what a name holds, a name that now
@@ -45,9 +53,9 @@ pub fn one_file_more()
         IsWorldOf (with_name name (found files file) db) files (effects ++ reopened name file ∷ []) }
     ensures opened { (db files : List (Held Relation)) (name : List ℕ) (columns : List Column) (rel : Relation) (effects : List Effect) → IsWorldOf db files effects →
         IsWorldOf (db ++ record { name = name; what = what.Kept; columns = columns; rows = rel } ∷ []) files (effects ++ opened name columns rel ∷ []) }
-    ensures imported { (old new files : List (Held Relation)) (name : List ℕ) (rows : List (List Value)) →
-        ((d : ℤ) → IsRefDay d → names_at d new ≡ names_after d (names_at d old) (t.Insert name rows)) →
-        AreWithin (sizes_at new) (name_sizes_after (sizes_at old) (t.Insert name rows)) → (effects : List Effect) → IsWorldOf old files effects →
+    ensures imported { (old new files : List (Held Relation)) (name : List ℕ) (rows : List (List Value)) (effects : List Effect) →
+        ((d : ℤ) → IsRefDay d → names_at d new ≡ statement_names d (live_of effects) (names_at d old) (t.Insert name rows)) →
+        AreWithin (sizes_at new) (statement_sizes (live_of effects) (sizes_at old) (t.Insert name rows)) → IsWorldOf old files effects →
         IsWorldOf new files (effects ++ imported name rows ∷ []) }
 {}
 

@@ -1,10 +1,12 @@
-//! Named relations: tables that statements change, and results that were kept.
+//! Named relations: tables that statements change, results that were kept, and the names of live results.
 //!
 //! A `Db` is its names in the order of creation, each with what it is, its columns and a relation
 //! whose rows fit them. `create`, `insert`, `delete`, `update`, `keep` and `drop_name` make of it,
 //! where names and kinds fit, on every day what the ordinary statement makes of the rows of that day,
 //! with no more rows than its size (specs/Statements.antt); where they are refused nothing has
-//! changed. `keep` is given its rows: `Db` asks no query. What statements on files make of a database and
+//! changed. `keep` is given its rows: `Db` asks no query. So a live result has a name here and no rows:
+//! `live` adds it, `settle` makes it a kept result, and `drop_live` takes all of them out; what becomes of
+//! live results at a statement stands in specs/Live.antt. What statements on files make of a database and
 //! of the files that are saved stands in specs/Effects.antt; the laws say what a list of statements comes
 //! to (`IsWorldOf` in specs/Runs.antt). `Db` is a `Catalog` of og_value and a `Tables` of og_rel.
 //!
@@ -19,6 +21,8 @@ mod laws;
 mod sought;
 
 pub use database::Db;
+pub use insertion::on_all_days;
 pub use laws::{
     fitting_rows, found_names, known_names, no_statements, one_file_more, one_statement_more,
 };
+pub use sought::Sought;

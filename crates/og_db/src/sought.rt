@@ -5,10 +5,10 @@ use indexmap::Equivalent;
 use og_value::Name;
 use std::hash::{Hash, Hasher};
 
-// The bytes of a name that is sought.
+/// The bytes of a name that is sought in a map.
 #[derive(Clone, Copy, Debug, PartialEq, Eq)]
-pub(crate) struct Sought<'a> {
-    pub(crate) bytes: &'a [u8],
+pub struct Sought<'a> {
+    pub bytes: &'a [u8],
 }
 
 impl<'a> Hash for Sought<'a> {

@@ -5,7 +5,7 @@ use Rattle.og_value.specs.Values.{row_at}
 use Rattle.og_rel.specs.Relations.{relation_at}
 use Rattle.og_query.specs.declared.typed.Typed.TheVariants as t
 use Rattle.og_db.specs.Database.{HaveKinds, names_at}
-use Rattle.og_db.specs.Held.{known_of, rows_of}
+use Rattle.og_db.specs.Held.{changed_at, known_of, rows_of}
 use Rattle.og_db.specs.Runs.{AreWithin, sizes_at}
 use Rattle.og_db.specs.Statements.{name_sizes_after}
 use Rattle.og_db.proofs.SizeLemmas.{within-made_everywhere}
@@ -17,6 +17,10 @@ pub add-requires : goal.add-requires
 add-requires c =
     let t = c.requires.table in
     (t.0, t.1, subst (HaveKinds t.0) (sym c.in_ok-more.ensures) (inserted_fit t.0 c.args.rows.items t.2))
+
+pub returns-clause-added : goal.returns-clause-added
+returns-clause-added c =
+    on_ok_weaker c.add.result (λ e. e ∙ ap (λ more. changed_at c.args.name.now (λ rel. rel ++ more) c.args.self.now) c.in_ok-more.ensures) c.add.ensures.added
 
 pub returns-clause-law : goal.returns-clause-law
 returns-clause-law c =
