@@ -1,0 +1,12 @@
+pub mod AnswerLemmas
+pub mod BaseLemmas
+pub mod ChoiceLemmas
+pub mod GrownLemmas
+pub mod InsertedLemmas
+pub mod LiveLemmas
+pub mod MoreLemmas
+pub mod NarrowedLemmas
+pub mod PlacedLemmas
+pub mod SizeLemmas
+pub mod ViewLemmas
+pub mod WidenedLemmas

@@ -1,0 +1,209 @@
+-- Cores over names by place: what their places have, and what they have more when a name gets new rows.
+use Rattle.std.proofs.Common.{◌≡◌, ◌≤◌, ◌++◌, ◌+◌, ℕ, ℤ, zero, suc, nat_lt, Bool, true, false, List, [], ◌∷◌, Option, Some, None, length, map, slice_get, if◌then◌else◌, refl, sym, ap, ap₂, ◌∙◌, subst, arith}
+use Rattle.std.specs.Cmp.Lexicographic.{same_text}
+use Rattle.std.specs.List.{All, flat_map, list_all, list_any}
+use Rattle.std.specs.Option.{option_map}
+use Rattle.std.specs.Str.{bytes_eq}
+use Rattle.std.proofs.lemmas.Bool.{le-ltb, lt-ltb, ltb-true, ltb-false}
+use Rattle.std.proofs.lemmas.List.{append-nil, length-append}
+use Rattle.std.proofs.lemmas.List.Elements.{All-cons, All-nil}
+use Rattle.og_base.proofs.SetMembers.{list_any-set_of}
+use Rattle.og_value.specs.Values.{row_at}
+use Rattle.og_value.specs.Words.{is_word, folded}
+use Rattle.og_base.specs.Letters.{is_in_word}
+use Rattle.og_rel.proofs.PresentLemmas.{relation_at-append}
+use Rattle.og_query.specs.Fits.{Schemas, core_kinds, IsAsNamed, IsFitSemi, IsFitCore, IsFitRest, IsFitQuery}
+use Rattle.og_query.specs.Kinds.{fits, kind_in, kinds_of}
+use Rattle.og_query.specs.declared.query.Core.{Core}
+use Rattle.og_query.specs.declared.query.From1.{From1}
+use Rattle.og_query.proofs.QueryLemmas.{rows_ordered}
+use Rattle.og_exec.specs.Tables.{Relations, rows_at, rows_on, rows_or_none, size_or_none, sizes_of}
+use Rattle.og_db.specs.Database.{Relation}
+use Rattle.og_db.specs.Held.{Held, changed_at, found, made_of, rows_of}
+use Rattle.og_view.specs.Placed.{beside, columns_at, gets, letters, place_rels, place_schemas, placed, placed_from, placed_core, placed_query}
+use Rattle.og_view.proofs.GrownLemmas.{IsAlike}
+
+-- one more letter
+pub letters-push : (k : ℕ) → letters k ++ 112 ∷ [] ≡ 112 ∷ letters k
+letters-push zero = refl
+letters-push (suc k) = ap (λ rest. 112 ∷ rest) (letters-push k)
+
+-- so many letters
+pub length-letters : (k : ℕ) → length (letters k) ≡ k
+length-letters zero = refl
+length-letters (suc k) = ap suc (length-letters k)
+
+-- letters are a word
+pub letters_word : (k : ℕ) → is_word (112 ∷ letters k) ≡ true
+letters_word k = all k
+  where
+    all : (k : ℕ) → list_all is_in_word (letters k) ≡ true
+    all zero = refl
+    all (suc k) = all k
+
+-- in lower case
+pub letters_lower : (k : ℕ) → folded (letters k) ≡ letters k
+letters_lower zero = refl
+letters_lower (suc k) = ap (λ rest. 112 ∷ rest) (letters_lower k)
+
+-- a number and nothing
+and_nothing : (k : ℕ) → k ≡ k + 0
+and_nothing k = omega arith
+
+-- one more in either place
+one_across : (k m : ℕ) → suc k + m ≡ k + suc m
+one_across k m = omega arith
+
+-- nothing and a number
+nothing_and : (k : ℕ) → 0 + k ≡ k
+nothing_and k = omega arith
+
+-- numbers that are each one more
+one_off : (a b : ℕ) → nat_lt (suc a) (suc b) ≡ nat_lt a b
+one_off a b = at (nat_lt a b) refl
+  where
+    at : (c : Bool) → nat_lt a b ≡ c → nat_lt (suc a) (suc b) ≡ nat_lt a b
+    at true is = lt-ltb (suc a) (suc b) (omega (arith, ltb-true a b is)) ∙ sym is
+    at false is = le-ltb (suc a) (suc b) (omega (arith, ltb-false a b is)) ∙ sym is
+
+-- the tables with one more
+pub placed_from-push : (k : ℕ) (tables : List From1) (table : From1) → placed_from k (tables ++ table ∷ []) ≡ placed_from k tables ++ placed (k + length tables) table ∷ []
+placed_from-push k [] table = ap (λ n. placed n table ∷ []) (and_nothing k)
+placed_from-push k (one ∷ tables) table =
+    ap (λ rest. placed k one ∷ rest) (placed_from-push (suc k) tables table ∙ ap (λ n. placed_from (suc k) tables ++ placed n table ∷ []) (one_across k (length tables)))
+
+-- there are as many
+length-placed_from : (k : ℕ) (tables : List From1) → length (placed_from k tables) ≡ length tables
+length-placed_from k [] = refl
+length-placed_from k (table ∷ tables) = ap suc (length-placed_from (suc k) tables)
+
+-- with the same kinds
+kinds-placed_from : (k : ℕ) (tables : List From1) → flat_map (λ table. kinds_of table.schema) (placed_from k tables) ≡ flat_map (λ table. kinds_of table.schema) tables
+kinds-placed_from k [] = refl
+kinds-placed_from k (table ∷ tables) = ap (λ rest. kinds_of table.schema ++ rest) (kinds-placed_from (suc k) tables)
+
+module _ (all : List From1) where
+  -- each has the columns of its place
+  placed_named : (k : ℕ) (tables : List From1) → ((j : ℕ) → slice_get all (k + j) ≡ slice_get tables j) → All (IsAsNamed (place_schemas all)) (placed_from k tables)
+  placed_named k [] there = All-nil (IsAsNamed (place_schemas all))
+  placed_named k (table ∷ tables) there =
+      All-cons (IsAsNamed (place_schemas all)) (placed k table) (placed_from (suc k) tables)
+      (ap (λ n. columns_at (slice_get all n)) (length-letters k ∙ and_nothing k) ∙ ap columns_at (there 0))
+      (placed_named (suc k) tables (λ j. ap (slice_get all) (one_across k j) ∙ there (suc j)))
+
+-- the query over names by place fits them
+pub placed_fits : (schemas : Schemas) (core : Core) → IsFitCore schemas core → IsFitQuery (place_schemas core.tables) (placed_query core)
+placed_fits schemas core fit = record {
+  first = record {
+    some = subst (λ n. 1 ≤ n) (sym (length-placed_from 0 core.tables)) fit.some;
+    tables = placed_named core.tables 0 core.tables (λ j. ap (slice_get core.tables) (nothing_and j));
+    cond = ap (λ kinds. fits kinds core.cond) (kinds-placed_from 0 core.tables) ∙ fit.cond;
+    semis = All-nil (IsFitSemi (place_schemas core.tables) (core_kinds (placed_core core)));
+    items = ap (λ kinds. map (kind_in kinds) core.items) (kinds-placed_from 0 core.tables) ∙ fit.items;
+  };
+  rest = All-nil (IsFitRest (place_schemas core.tables) (placed_core core));
+}
+
+module _ {A : Type 0} where
+  -- what is made of each place
+  abbrev by_place : (ℕ → A) → List From1 → List A
+  by_place make [] = []
+  by_place make (table ∷ tables) = make 0 ∷ by_place (λ k. make (suc k)) tables
+
+  -- what is made of each name of a place
+  placed-by_place : (make : List ℕ → A) (k : ℕ) (tables : List From1) → map (λ table. make table.name) (placed_from k tables) ≡ by_place (λ j. make (112 ∷ letters (k + j))) tables
+  placed-by_place make k [] = refl
+  placed-by_place make k (table ∷ tables) =
+      ap₂ (λ x xs. x ∷ xs) (ap (λ n. make (112 ∷ letters n)) (and_nothing k))
+      (placed-by_place make (suc k) tables ∙ (λ i. by_place (λ j. make (112 ∷ letters (one_across k j i))) tables))
+
+  module _ (after before : Relations) (new : Relation) (read : Option Relation → A) where
+    -- what is read at each place
+    abbrev pub sided : ℕ → List From1 → List A
+    sided zero [] = []
+    sided zero (table ∷ tables) = read (Some new) ∷ map (λ table. read (before table.name)) tables
+    sided (suc place) [] = []
+    sided (suc place) (table ∷ tables) = read (after table.name) ∷ sided place tables
+
+    behind : (at : ℕ → ℕ) (tables : List From1) → by_place (λ k. read (beside after before new zero (suc (at k)) (slice_get tables k))) tables ≡ map (λ table. read (before table.name)) tables
+    behind at [] = refl
+    behind at (table ∷ tables) =
+        ap₂ (λ x xs. x ∷ xs) (λ i. read (if le-ltb (suc (at 0)) 0 (omega arith) i then after table.name else if lt-ltb 0 (suc (at 0)) (omega arith) i then before table.name else Some new))
+        (behind (λ k. at (suc k)) tables)
+
+    one_before : (place k : ℕ) (o : Option From1) → beside after before new (suc place) (suc k) o ≡ beside after before new place k o
+    one_before place k None = refl
+    one_before place k (Some table) = λ i. if one_off k place i then after table.name else if one_off place k i then before table.name else Some new
+
+    beside-by_place : (place : ℕ) (tables : List From1) → by_place (λ k. read (beside after before new place k (slice_get tables k))) tables ≡ sided place tables
+    beside-by_place zero [] = refl
+    beside-by_place (suc place) [] = refl
+    beside-by_place zero (table ∷ tables) = ap (λ rest. read (Some new) ∷ rest) (behind (λ k. k) tables)
+    beside-by_place (suc place) (table ∷ tables) =
+        ap₂ (λ x xs. x ∷ xs) (λ i. read (if lt-ltb 0 (suc place) (omega arith) i then after table.name else if nat_lt (suc place) 0 then before table.name else Some new))
+        ((λ i. by_place (λ k. read (one_before place k (slice_get tables k) i)) tables) ∙ beside-by_place place tables)
+
+    -- what is read by the names of the places
+    pub place_reads : (place : ℕ) (tables : List From1) → map (λ table. read (place_rels after before new place tables table.name)) (placed_from 0 tables) ≡ sided place tables
+    place_reads place tables =
+        placed-by_place (λ name. read (place_rels after before new place tables name)) 0 tables
+        ∙ (λ i. by_place (λ k. read (beside after before new place (number k i) (slice_get tables (number k i)))) tables)
+        ∙ beside-by_place place tables
+      where
+        number : (k : ℕ) → length (letters (0 + k)) ≡ k
+        number k = length-letters (0 + k) ∙ nothing_and k
+
+module _ (name : List ℕ) (new : Relation) (before : List (Held Relation)) (rel : Relation) (there : rows_of before name ≡ Some rel) where
+  -- the names after one gets new rows
+  abbrev pub after : List (Held Relation)
+  after = changed_at name (λ rel. rel ++ new) before
+
+  -- the relation of each name then
+  rows_of-after : (db : List (Held Relation)) (other : List ℕ) → rows_of (changed_at name (λ rel. rel ++ new) db) other ≡ option_map (λ rel. rel ++ gets name new other) (rows_of db other)
+  rows_of-after [] other = refl
+  rows_of-after (h ∷ hs) other = at (bytes_eq other h.name) refl (rows_of-after hs other)
+    where
+      grown : (b : Bool) → (if b then made_of (λ rel. rel ++ new) h else h).rows ≡ h.rows ++ (if b then new else [])
+      grown true = refl
+      grown false = sym (append-nil h.rows)
+
+      named : (b : Bool) → (if b then made_of (λ rel. rel ++ new) h else h).name ≡ h.name
+      named true = refl
+      named false = refl
+
+      at : (c : Bool) → bytes_eq other h.name ≡ c → rows_of (changed_at name (λ rel. rel ++ new) hs) other ≡ option_map (λ rel. rel ++ gets name new other) (rows_of hs other)
+          → rows_of (changed_at name (λ rel. rel ++ new) (h ∷ hs)) other ≡ option_map (λ rel. rel ++ gets name new other) (rows_of (h ∷ hs) other)
+      at true here rest =
+          ap (λ c. option_map (λ h. h.rows) (if c then Some (if bytes_eq name h.name then made_of (λ rel. rel ++ new) h else h) else found (changed_at name (λ rel. rel ++ new) hs) other)) (ap (bytes_eq other) (named (bytes_eq name h.name)) ∙ here)
+          ∙ ap Some (grown (bytes_eq name h.name) ∙ ap (λ other. h.rows ++ gets name new other) (sym (same_text other h.name (sym here))))
+          ∙ sym (ap (λ c. option_map (λ rel. rel ++ gets name new other) (option_map (λ h. h.rows) (if c then Some h else found hs other))) here)
+      at false here rest =
+          ap (λ c. option_map (λ h. h.rows) (if c then Some (if bytes_eq name h.name then made_of (λ rel. rel ++ new) h else h) else found (changed_at name (λ rel. rel ++ new) hs) other)) (ap (bytes_eq other) (named (bytes_eq name h.name)) ∙ here)
+          ∙ rest
+          ∙ sym (ap (λ c. option_map (λ rel. rel ++ gets name new other) (option_map (λ h. h.rows) (if c then Some h else found hs other))) here)
+
+  -- a name that is not there gets nothing
+  none_gets : (other : List ℕ) → rows_of before other ≡ None → gets name new other ≡ []
+  none_gets other none = at (bytes_eq name other) refl
+    where
+      at : (b : Bool) → bytes_eq name other ≡ b → (if b then new else []) ≡ []
+      at true here = let e : Some rel ≡ None = sym there ∙ ap (rows_of before) (same_text name other (sym here)) ∙ none in cc e
+      at false here = refl
+
+  -- the rows of each name on a day
+  pub alike-after : (d : ℤ) (other : List ℕ) → IsAlike (rows_at (rows_of after) d other) (rows_at (rows_of before) d other ++ rows_on (gets name new other) d)
+  alike-after d other p = ap (λ o. list_any p (rows_or_none o d)) (rows_of-after before other) ∙ at (rows_of before other) refl
+    where
+      at : (o : Option Relation) → rows_of before other ≡ o → list_any p (rows_or_none (option_map (λ rel. rel ++ gets name new other) o) d) ≡ list_any p (rows_or_none o d ++ rows_on (gets name new other) d)
+      at (Some old) is =
+          ap (list_any p) (relation_at-append rows_ordered row_at old (gets name new other) d)
+          ∙ list_any-set_of rows_ordered.exact p (rows_on old d ++ rows_on (gets name new other) d)
+      at None is = sym (ap (λ more. list_any p (rows_on more d)) (none_gets other is))
+
+  -- how many rows each name has
+  pub size-after : (other : List ℕ) → sizes_of (rows_of after) other ≡ sizes_of (rows_of before) other + length (gets name new other)
+  size-after other = ap size_or_none (rows_of-after before other) ∙ at (rows_of before other) refl
+    where
+      at : (o : Option Relation) → rows_of before other ≡ o → size_or_none (option_map (λ rel. rel ++ gets name new other) o) ≡ size_or_none o + length (gets name new other)
+      at (Some old) is = length-append old (gets name new other)
+      at None is = sym (ap (λ more. 0 + length more) (none_gets other is))

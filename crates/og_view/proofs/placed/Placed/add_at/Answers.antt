@@ -1,0 +1,101 @@
+use Rattle.std.proofs.Common.{◌≡◌, ◌≤◌, ◌++◌, Bool, true, false, not, length, slice_index_or, ap, refl, subst, sym, ◌∙◌, true≢false, arith}
+use Rattle.std.specs.List.{list_any}
+use Rattle.std.specs.Str.{bytes_eq}
+use Rattle.std.proofs.lemmas.List.{length-append}
+use Rattle.std.proofs.lemmas.List.Elements.{recursion_from_All}
+use Rattle.std.proofs.lemmas.Result.{on_ok_weaker}
+use Rattle.og_base.specs.Set.{set_of}
+use Rattle.og_value.specs.Order.{row_order}
+use Rattle.og_value.specs.Values.{row_at}
+use Rattle.og_rel.proofs.PresentLemmas.{relation_at-append}
+use Rattle.og_query.specs.Fits.{IsAsNamed, IsFitQuery, tables_of}
+use Rattle.og_query.specs.Queries.{ordinary_query}
+use Rattle.og_query.specs.Sizes.{query_size}
+use Rattle.og_query.proofs.QueryLemmas.{rows_ordered}
+use Rattle.og_exec.specs.Tables.{rows_at, rows_on, sizes_of}
+use Rattle.og_db.specs.Held.{known_of, rows_of}
+use Rattle.og_view.specs.Bases.{AreHeld}
+use Rattle.og_view.specs.Placed.{place_rels, place_schemas, placed_query}
+use Rattle.og_view.proofs.PlacedLemmas.{alike-after, placed_fits, size-after}
+use Rattle.og_view.proofs.MoreLemmas.{no_rows_at_place, nothing_added, places_held, rows_at_place, size_at_place, size_of_more, table_there}
+use Rattle.og_view.proofs.placed.Placed.add_at.Goals as goal
+
+-- what is not false
+is_true : (b : Bool) → false ≡ not b → b ≡ true
+is_true true e = refl
+is_true false e = absurd (true≢false (sym e))
+
+-- and what is not true
+is_false : (b : Bool) → true ≡ not b → b ≡ false
+is_false true e = absurd (true≢false e)
+is_false false e = refl
+
+pub returns-then-ne-clause-law : goal.returns-then-ne-clause-law
+returns-then-ne-clause-law g c d day =
+    let change = c.args.change.now in
+    let core = c.args.self.now in
+    let table = c.index-tables-place.result in
+    let tables = c.as_slice-tables.ensures ∙ ap (λ core. core.tables) c.self.view_is in
+    let off = ap (λ ts. bytes_eq change.name.now (slice_index_or ts c.args.place table).name) (sym tables) ∙ is_false _ c.if-ne.ensures in
+    nothing_added c.args.more.now d _ (no_rows_at_place d (rows_of change.before.now) change.name.now change.new.now core c.args.place table c.requires.within off)
+
+pub returns-then-ne-clause-size : goal.returns-then-ne-clause-size
+returns-then-ne-clause-size g c =
+    let change = c.args.change.now in
+    omega (arith, size_of_more (rows_of change.before.now) change.name.now change.new.now c.args.self.now c.args.place c.requires.within)
+
+pub answered-requires-clause-fits : goal.answered-requires-clause-fits
+answered-requires-clause-fits g c κs within =
+    let change = c.args.change.now in
+    let core = c.args.self.now in
+    let before = change.before.now in
+    let table = c.index-tables-place.result in
+    let tables = c.as_slice-tables.ensures ∙ ap (λ core. core.tables) c.self.view_is in
+    let here = ap (λ ts. bytes_eq change.name.now (slice_index_or ts c.args.place table).name) (sym tables) ∙ is_true _ c.if-ne.ensures in
+    let t = c.requires.table in (
+      place_schemas core.tables,
+      subst (IsFitQuery (place_schemas core.tables)) (sym (c.self.invariant ∙ ap placed_query c.self.view_is)) (placed_fits (tables_of (known_of before)) core c.requires.fits),
+      subst (λ ts. AreHeld (place_schemas core.tables) (place_rels (rows_of change.after.now) (rows_of before) change.new.now c.args.place ts)) (sym tables)
+          (places_held before change.name.now t.0 t.1 change.new.now t.2 change.after.now c.requires.after core.tables c.args.place table here
+          (recursion_from_All (IsAsNamed (tables_of (known_of before))) core.tables c.requires.fits.tables) c.rows_fit-2.ensures.held c.rows_fit.ensures.held),
+    )
+
+pub returns-clause-law : goal.returns-clause-law
+returns-clause-law g c =
+    let change = c.args.change.now in
+    let core = c.args.self.now in
+    let before = change.before.now in
+    let name = change.name.now in
+    let new = change.new.now in
+    let table = c.index-tables-place.result in
+    let tables = c.as_slice-tables.ensures ∙ ap (λ core. core.tables) c.self.view_is in
+    let here = ap (λ ts. bytes_eq name (slice_index_or ts c.args.place table).name) (sym tables) ∙ is_true _ c.if-ne.ensures in
+    let there = table_there before name c.requires.table.0 c.requires.table.1 in
+    on_ok_weaker c.append.result (λ e d day.
+    ap (λ rel. rows_on rel d) e
+    ∙ relation_at-append rows_ordered row_at c.args.more.now c.in_ok-rel.rel d
+    ∙ ap (λ rows. set_of row_order (rows_on c.args.more.now d ++ rows))
+    (c.in_ok-rel.ensures.law d day
+    ∙ (λ i. ordinary_query d (rows_at (place_rels (rows_of change.after.now) (rows_of before) new c.args.place (tables i)) d) ((c.self.invariant ∙ ap placed_query c.self.view_is) i))
+    ∙ rows_at_place d (rows_of before) name new (rows_of change.after.now)
+    (λ other p. ap (λ db. list_any p (rows_at (rows_of db) d other)) c.requires.after ∙ alike-after name new before there.0 there.1 d other p) core c.args.place table c.requires.within here))
+    c.append.ensures.appended
+
+pub returns-clause-size : goal.returns-clause-size
+returns-clause-size g c =
+    let change = c.args.change.now in
+    let core = c.args.self.now in
+    let before = change.before.now in
+    let name = change.name.now in
+    let new = change.new.now in
+    let table = c.index-tables-place.result in
+    let tables = c.as_slice-tables.ensures ∙ ap (λ core. core.tables) c.self.view_is in
+    let here = ap (λ ts. bytes_eq name (slice_index_or ts c.args.place table).name) (sym tables) ∙ is_true _ c.if-ne.ensures in
+    let there = table_there before name c.requires.table.0 c.requires.table.1 in
+    let most : length c.in_ok-rel.rel ≤ query_size (sizes_of (place_rels (rows_of change.after.now) (rows_of before) new c.args.place core.tables)) (placed_query core) =
+    subst (λ most. length c.in_ok-rel.rel ≤ most)
+    (λ i. query_size (sizes_of (place_rels (rows_of change.after.now) (rows_of before) new c.args.place (tables i))) ((c.self.invariant ∙ ap placed_query c.self.view_is) i))
+    c.in_ok-rel.ensures.size in
+    let next = size_at_place (rows_of before) name new core (rows_of change.after.now)
+    (λ other. ap (λ db. sizes_of (rows_of db) other) c.requires.after ∙ size-after name new before there.0 there.1 other) c.args.place table c.requires.within here in
+    on_ok_weaker c.append.result (λ e. omega (arith, ap length e, length-append c.args.more.now c.in_ok-rel.rel, most, next)) c.append.ensures.appended

@@ -1,0 +1,20 @@
+-- The bases of a view: copies of tables.
+use Rattle.std.specs.Prelude.{◌≡◌, ℕ, List, Some}
+use Rattle.og_value.specs.declared.kind.What.{What}
+use Rattle.og_value.specs.declared.schema.Column.{Column}
+use Rattle.og_query.specs.Fits.{Known, Schemas, tables_of}
+use Rattle.og_exec.specs.Tables.{Relations, IsThere}
+use Rattle.og_db.specs.Database.{Relation}
+use Rattle.og_db.specs.Held.{Held, known_of, rows_of}
+
+-- each name that has columns has a relation, and its rows fit them
+abbrev pub AreHeld : Schemas → Relations → Type 0
+AreHeld schemas named = (name : List ℕ) (columns : List Column) → schemas name ≡ Some columns → IsThere named (name, columns)
+
+-- each base is what is known of its name, and has the relation of its name
+abbrev pub AreCopied : Known → Relations → List (Held Relation) → Type 0
+AreCopied known named bases = (name : List ℕ) (one : What × List Column) → known_of bases name ≡ Some one → (known name ≡ Some one) × (rows_of bases name ≡ named name)
+
+-- each table of the first is one of the second, with the same columns
+abbrev pub AreMore : List (Held Relation) → List (Held Relation) → Type 0
+AreMore old new = (name : List ℕ) (columns : List Column) → tables_of (known_of old) name ≡ Some columns → tables_of (known_of new) name ≡ Some columns

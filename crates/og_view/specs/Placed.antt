@@ -1,0 +1,79 @@
+-- Cores under names by place, so that each place of FROM can have a relation of its own, and what such places have while a table gets new rows.
+use Rattle.std.specs.Prelude.{ℕ, zero, suc, ℤ, nat_lt, List, [], ◌∷◌, Option, Some, None, length, map, slice_get, if◌then◌else◌}
+use Rattle.std.specs.List.{flat_map}
+use Rattle.std.specs.Str.{bytes_eq}
+use Rattle.og_value.specs.declared.schema.Column.{Column}
+use Rattle.og_query.specs.Fits.{Schemas}
+use Rattle.og_query.specs.Queries.{Fixed}
+use Rattle.og_query.specs.declared.query.Core.{Core}
+use Rattle.og_query.specs.declared.query.From1.{From1}
+use Rattle.og_query.specs.declared.query.Query.{Query}
+use Rattle.og_exec.specs.Tables.{Relations, rows_at, rows_on, sizes_of}
+use Rattle.og_db.specs.Database.{Relation}
+use Rattle.og_view.specs.Rows.{rows_over, steps}
+use Rattle.og_view.specs.Sizes.{first_steps_size, steps_size}
+
+-- so many letters p
+abbrev pub letters : ℕ → List ℕ
+letters zero = []
+letters (suc k) = 112 ∷ letters k
+
+-- the table under the name of a place: one letter more than there are places before it
+abbrev pub placed : ℕ → From1 → From1
+placed k table = record { name = 112 ∷ letters k; schema = table.schema }
+
+-- the tables under the names of their places, of which the first has that many before it
+abbrev pub placed_from : ℕ → List From1 → List From1
+placed_from k [] = []
+placed_from k (table ∷ tables) = placed k table ∷ placed_from (suc k) tables
+
+-- the core over the names of its places
+abbrev pub placed_core : Core → Core
+placed_core core = record { tables = placed_from 0 core.tables; cond = core.cond; semis = []; items = core.items; schema = core.schema }
+
+-- the query of that core alone
+abbrev pub placed_query : Core → Query
+placed_query core = record { first = placed_core core; rest = [] }
+
+-- the cores of a query
+abbrev pub cores_of : Query → List Core
+cores_of query = query.first ∷ map (λ rest. rest.core) query.rest
+
+-- the columns of the table at a place
+abbrev pub columns_at : Option From1 → Option (List Column)
+columns_at (Some table) = Some table.schema
+columns_at None = None
+
+-- the columns of each name of a place
+abbrev pub place_schemas : List From1 → Schemas
+place_schemas tables [] = None
+place_schemas tables (letter ∷ name) = columns_at (slice_get tables (length name))
+
+-- what a table has at a place, where another place has the new rows: those before it have what is after the change, and those behind it what was before
+abbrev pub beside : Relations → Relations → Relation → ℕ → ℕ → Option From1 → Option Relation
+beside after before new place k None = None
+beside after before new place k (Some table) = if nat_lt k place then after table.name else if nat_lt place k then before table.name else Some new
+
+-- the relation of each name of a place
+abbrev pub place_rels : Relations → Relations → Relation → ℕ → List From1 → Relations
+place_rels after before new place tables [] = None
+place_rels after before new place tables (letter ∷ name) = beside after before new place (length name) (slice_get tables (length name))
+
+-- the rows that a name gets, where one name gets new rows
+abbrev pub gets : List ℕ → Relation → List ℕ → Relation
+gets name new other = if bytes_eq name other then new else []
+
+-- the lists of rows of one day that a core has more, place by place, where a name gets new rows
+abbrev pub more_lists : ℤ → Relations → List ℕ → Relation → Core → List (List (List Fixed))
+more_lists d before name new core = steps [] (map (λ table. rows_at before d table.name) core.tables) (map (λ table. rows_on (gets name new table.name) d) core.tables)
+
+-- the rows that it has more
+abbrev pub more_rows : ℤ → Relations → List ℕ → Relation → Core → List Fixed
+more_rows d before name new core = flat_map (rows_over d core) (more_lists d before name new core)
+
+-- how many rows these have at most, of the first places and of all
+abbrev pub first_more_size : ℕ → Relations → List ℕ → Relation → Core → ℕ
+first_more_size k before name new core = first_steps_size k [] (map (λ table. sizes_of before table.name) core.tables) (map (λ table. length (gets name new table.name)) core.tables)
+
+abbrev pub more_size : Relations → List ℕ → Relation → Core → ℕ
+more_size before name new core = steps_size [] (map (λ table. sizes_of before table.name) core.tables) (map (λ table. length (gets name new table.name)) core.tables)

@@ -1,0 +1,212 @@
+//! Cores over names by place, which are asked for what they have more when a table gets new rows.
+ghost use Rattle.std.specs.Prelude.{◌≡◌, ◌≤◌, ◌<◌, ◌+◌, ◌++◌, ℕ, ℤ, List, [], Some, IfOk, OnOk, length, slice_index_or};
+ghost use Rattle.std.specs.List.{All, flat_map, sum_by};
+ghost use Rattle.og_base.specs.Calendar.{IsRefDay};
+ghost use Rattle.og_base.specs.Set.{set_of};
+ghost use Rattle.og_par.specs.Limits.{max_workers};
+ghost use Rattle.og_value.specs.Order.{row_order};
+ghost use Rattle.og_value.specs.declared.schema.Column.{Column};
+ghost use Rattle.og_query.specs.Fits.{IsFitCore, IsFitQuery, Schemas, tables_of};
+ghost use Rattle.og_query.specs.Queries.{Fixed};
+ghost use Rattle.og_exec.specs.Tables.{rows_on};
+ghost use Rattle.og_db.specs.Held.{changed_at, known_of, rows_of};
+ghost use Rattle.og_db.specs.Database.{HaveKinds, IsTableOf};
+ghost use Rattle.og_view.specs.Placed as spec;
+ghost use Rattle.og_view.specs.Placed.{cores_of, first_more_size, more_lists, more_rows, more_size, placed_query};
+ghost use Rattle.og_view.specs.Rows.{rows_over};
+
+use crate::asked::Asked;
+use crate::change::{Change, Places};
+use og_base::NoMemory;
+use og_par::Gate;
+use og_query::{Core, From1, Query, copy_expressions};
+use og_rel::Rel;
+use og_value::{Name, NameRefusal, Row};
+use sqlite_items::Items;
+use std::alloc::Global;
+use std::marker::Model;
+use std::thread::Threads;
+
+// A core, and with its plan the query of that core alone over names by place.
+#[derive(Drop)]
+pub(crate) struct Placed {
+    core: Core,
+    asked: Asked,
+}
+
+impl Model for Placed {
+    ghost use Rattle.std.specs.Coded.{codes};
+    ghost use Rattle.std.specs.Prelude.{◌≡◌};
+    ghost use Rattle.og_query.specs.contracts.query.Core as c;
+    ghost use Rattle.og_query.specs.declared.query.Core.{Core};
+    ghost use Rattle.og_view.specs.Placed.{placed_query};
+
+    ghost Value = { Core };
+
+    ghost coded = { Prim.hlevel (codes, c.the_row.coded) };
+
+    ghost view = { λ p. p.core };
+
+    ghost invariant = { λ p. p.asked ≡ placed_query p.core };
+}
+
+// The name that those letters are.
+fn name_of(alloc: Global, letters: &[u8]) -> Result<Name, NoMemory>
+    requires { (k : ℕ) × (letters.now ≡ spec.letters (k + 1)) }
+    ensures { IfOk result (λ name. name ≡ letters.now) }
+{
+    match Name::of(alloc, letters) {
+        Ok(name) => Ok(name),
+        Err(NameRefusal::NoMemory) => Err(NoMemory),
+        Err(NameRefusal::NotAName) => unreachable!(),
+    }
+}
+
+// The tables under the names of their places.
+fn placed_tables(alloc: Global, tables: &[From1]) -> Result<Items<From1>, NoMemory>
+    ensures { IfOk result (λ placed. placed ≡ spec.placed_from 0 tables.now) }
+{
+    let mut letters = Vec::new(alloc);
+    let mut placed = Items::new(alloc);
+    'tables: for table in tables {
+        letters.push(b'p')?;
+        let name = name_of(alloc, letters.as_slice())?;
+        let schema = table.schema.copy()?;
+        placed.push(From1 { name, schema })?;
+    }
+    Ok(placed)
+}
+
+// The query of a core alone over names by place.
+fn placed_query_of(alloc: Global, core: &Core) -> Result<Query, NoMemory>
+    ensures { IfOk result (λ query. query ≡ placed_query core.now) }
+{
+    let tables = placed_tables(alloc, core.tables.as_slice())?;
+    let items = copy_expressions(alloc, &core.items)?;
+    let schema = core.schema.copy()?;
+    let cond = core.cond.copy(alloc)?;
+    let first = Core {
+        tables,
+        cond,
+        semis: Items::new(alloc),
+        items,
+        schema,
+    };
+    Ok(Query {
+        first,
+        rest: Items::new(alloc),
+    })
+}
+
+impl Placed {
+    // The core with its plan.
+    pub(crate) fn new(alloc: Global, core: &Core) -> Result<Placed, NoMemory>
+        requires fits { (schemas : Schemas) × IsFitCore schemas core.now }
+        ensures { IfOk result (λ placed. placed ≡ core.now) }
+    {
+        let query = placed_query_of(alloc, core)?;
+        let asked = Asked::new(alloc, &query)?;
+        let core = core.copy(alloc)?;
+        Ok(Placed { core, asked })
+    }
+
+    // Appends the rows that the core has more by the new rows at one place, where the table there gets them.
+    fn add_at<H: Threads + Sync, G: Gate + Sync>(
+        &self,
+        rt: &H,
+        alloc: Global,
+        change: &Change<'_>,
+        place: usize,
+        workers: usize,
+        gate: &G,
+        more: &mut Rel<Row>,
+    ) -> Result<(), NoMemory>
+        requires least { 1 ≤ workers }
+        requires most { workers ≤ max_workers }
+        requires within { place < length self.now.tables }
+        requires fits { IsFitCore (tables_of (known_of change.now.before.now)) self.now }
+        requires after { change.now.after.now ≡ changed_at change.now.name.now (λ rel. rel ++ change.now.new.now) change.now.before.now }
+        requires table { (columns : List Column) × IsTableOf columns change.now.before.now change.now.name.now × HaveKinds columns change.now.new.now }
+        ensures law { OnOk result ((d : ℤ) → IsRefDay d → rows_on more.new d ≡ set_of row_order (rows_on more.old d
+            ++ rows_over d self.now (slice_index_or (more_lists d (rows_of change.now.before.now) change.now.name.now change.now.new.now self.now) place []))) }
+        ensures size { OnOk result (length more.new + first_more_size place (rows_of change.now.before.now) change.now.name.now change.now.new.now self.now
+            ≤ length more.old + first_more_size (place + 1) (rows_of change.now.before.now) change.now.name.now change.now.new.now self.now) }
+    {
+        let tables = self.core.tables.as_slice();
+        if *change.name != tables[place].name {
+            return Ok(());
+        }
+        change.before.rows_fit();
+        change.after.rows_fit();
+        let places = Places {
+            tables,
+            place,
+            change,
+        };
+        let rel = self.asked.answered(rt, alloc, &places, workers, gate)?;
+        more.append(rel)
+    }
+
+    // Appends the rows that the core has more by the new rows, place by place.
+    pub(crate) fn add<H: Threads + Sync, G: Gate + Sync>(
+        &self,
+        rt: &H,
+        alloc: Global,
+        change: &Change<'_>,
+        workers: usize,
+        gate: &G,
+        more: &mut Rel<Row>,
+    ) -> Result<(), NoMemory>
+        requires least { 1 ≤ workers }
+        requires most { workers ≤ max_workers }
+        requires fits { IsFitCore (tables_of (known_of change.now.before.now)) self.now }
+        requires after { change.now.after.now ≡ changed_at change.now.name.now (λ rel. rel ++ change.now.new.now) change.now.before.now }
+        requires table { (columns : List Column) × IsTableOf columns change.now.before.now change.now.name.now × HaveKinds columns change.now.new.now }
+        ensures law { OnOk result ((d : ℤ) → IsRefDay d → rows_on more.new d ≡ set_of row_order (rows_on more.old d
+            ++ more_rows d (rows_of change.now.before.now) change.now.name.now change.now.new.now self.now)) }
+        ensures size { OnOk result (length more.new ≤ length more.old + more_size (rows_of change.now.before.now) change.now.name.now change.now.new.now self.now) }
+    {
+        'places: for place in 0..self.core.tables.len() {
+            self.add_at(rt, alloc, change, place, workers, gate, more)?;
+        }
+        Ok(())
+    }
+}
+
+// The cores of a query, each with its plan.
+pub(crate) fn placed_cores(alloc: Global, query: &Query) -> Result<Vec<Placed>, NoMemory>
+    requires fits { (schemas : Schemas) × IsFitQuery schemas query.now }
+    ensures { IfOk result (λ cores. cores.items ≡ cores_of query.now) }
+{
+    let mut cores = Vec::new(alloc);
+    cores.push(Placed::new(alloc, &query.first)?)?;
+    'rests: for rest in query.rest.as_slice() {
+        cores.push(Placed::new(alloc, &rest.core)?)?;
+    }
+    Ok(cores)
+}
+
+// The rows that cores have more by new rows, one core after the other.
+pub(crate) fn more_of<H: Threads + Sync, G: Gate + Sync>(
+    rt: &H,
+    alloc: Global,
+    cores: &[Placed],
+    change: &Change<'_>,
+    workers: usize,
+    gate: &G,
+) -> Result<Rel<Row>, NoMemory>
+    requires least { 1 ≤ workers }
+    requires most { workers ≤ max_workers }
+    requires fits { All (IsFitCore (tables_of (known_of change.now.before.now))) cores.now }
+    requires after { change.now.after.now ≡ changed_at change.now.name.now (λ rel. rel ++ change.now.new.now) change.now.before.now }
+    requires table { (columns : List Column) × IsTableOf columns change.now.before.now change.now.name.now × HaveKinds columns change.now.new.now }
+    ensures law { IfOk result (λ more. (d : ℤ) → IsRefDay d →
+        rows_on more d ≡ set_of row_order (flat_map (more_rows d (rows_of change.now.before.now) change.now.name.now change.now.new.now) cores.now)) }
+    ensures size { IfOk result (λ more. length more ≤ sum_by (more_size (rows_of change.now.before.now) change.now.name.now change.now.new.now) cores.now) }
+{
+    let mut more = Rel::new(alloc);
+    'cores: for core in cores {
+        core.add(rt, alloc, change, workers, gate, &mut more)?;
+    }
+    Ok(more)
+}
