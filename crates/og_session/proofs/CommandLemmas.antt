@@ -1,8 +1,10 @@
--- The scripts of the commands: one row more, and that the statements are built.
-use Rattle.std.proofs.Common.{◌≡◌, ◌++◌, ◌∷◌, ◌+◌, ℕ, [], None, refl, arith}
+-- The scripts of the commands: one row more, and that no statement is a LIVE.
+use Rattle.std.proofs.Common.{◌≡◌, ◌++◌, ◌∷◌, ◌+◌, ℕ, [], arith}
+use Rattle.std.specs.List.{All}
+use Rattle.std.proofs.lemmas.List.Elements.{All-from_recursion}
 use Rattle.std.proofs.lemmas.List.FromFn.{map-range_with_len_more}
 use Rattle.og_session.specs.Commands.{load_row, load_rows, load_table, load_answers, load_script}
-use Rattle.og_session.specs.Runs.{first_unbuilt}
+use Rattle.og_session.specs.Lives.{IsLiveStmt}
 use Rattle.og_session.specs.declared.load.Side.{Side}
 
 -- the rows, and one more
@@ -10,7 +12,7 @@ pub more_rows : (of : Side) (i : ℕ) → load_rows of (i + 1) ≡ load_rows of 
 unfolding load_rows
 more_rows of i = map-range_with_len_more (load_row of) 0 i i (omega arith)
 
--- all statements of `load` are built
-pub load_built : (first n : ℕ) → first_unbuilt first (load_script n) ≡ None
+-- no statement of `load` is a LIVE
+pub load_live : (n : ℕ) → All IsLiveStmt (load_script n)
 unfolding load_script load_table load_answers
-load_built first n = refl
+load_live n = All-from_recursion IsLiveStmt (load_script n) (tt, (tt, (tt, (tt, (tt, (tt, (tt, tt)))))))

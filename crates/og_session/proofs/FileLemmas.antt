@@ -1,11 +1,10 @@
 -- Statements on files: what is under a name, and what a file that was read or written makes of a run.
-use Rattle.std.proofs.Common.{◌≡◌, ◌≢◌, ◌++◌, ℕ, ℤ, Bool, true, false, cond, List, [], ◌∷◌, Option, Some, None, Result, Ok, Err, All, length, option_map, inr, refl, sym, ap, ap₂, ◌∙◌, subst, true≢false}
+use Rattle.std.proofs.Common.{◌≡◌, ◌≢◌, ◌++◌, ℕ, Bool, true, false, cond, List, [], ◌∷◌, Option, Some, None, Result, Ok, Err, All, length, option_map, inr, refl, sym, ap, ap₂, ◌∙◌, subst, true≢false}
 use denote.Enum.Bare.{sameb}
 use Rattle.std.specs.Cmp.Lexicographic.{same_text}
 use Rattle.std.specs.Str.{bytes_eq}
 use Rattle.std.proofs.lemmas.Option.{same_Some}
 use Rattle.std.proofs.lemmas.Slice.Eq.{bytes_eq-Decides}
-use Rattle.og_base.specs.Calendar.{IsRefDay}
 use Rattle.og_value.specs.Words.{IsLowerWord}
 use Rattle.og_value.specs.declared.kind.What.{What}
 use Rattle.og_value.specs.declared.kind.What.TheVariants as what
@@ -19,11 +18,11 @@ use Rattle.og_io.specs.declared.files.FilesRefusal.TheVariants as devices
 use Rattle.og_io.specs.contracts.files.Found.{the_type}
 use Rattle.og_io.specs.declared.files.Found.{Found}
 use Rattle.og_io.specs.declared.files.Found.TheVariants as there
-use Rattle.og_db.specs.Database.{Relation, names_at}
+use Rattle.og_db.specs.Database.{Relation}
 use Rattle.og_db.specs.Effects.{Effect, saved, reopened, opened, imported, kept_as, with_file, with_name, sizes_after}
 use Rattle.og_db.specs.Held.{Held, found, known_of, made_of, rows_of}
-use Rattle.og_db.specs.Runs.{AreWithin, IsWorldOf, known_after, sizes_at}
-use Rattle.og_db.specs.Statements.{name_sizes_after, names_after, or_else}
+use Rattle.og_db.specs.Runs.{AreWithin, IsWorldOf, known_after, sizes_at, stored}
+use Rattle.og_db.specs.Statements.{or_else}
 use Rattle.og_db.proofs.EffectLemmas.{AreBoth, within-found}
 use Rattle.og_db.proofs.WorldLemmas.{found-made_of}
 use Rattle.og_file.specs.SavedFile.{Pair, IsSavedFault, IsSavedFile, IsVersionTwo}
@@ -31,12 +30,14 @@ use Rattle.og_file.specs.TableFile.{IsTableFault, IsTableFile}
 use Rattle.og_file.specs.declared.refusal.FileRefusal.{FileRefusal}
 use Rattle.og_file.specs.declared.refusal.FileRefusal.TheVariants as refused
 use Rattle.og_session.specs.Contents.{AreContents, Content, Contents, IsContent, IsHeld, IsSavedContent, IsTableContent, Refused, by_file, columns_after, effect_of, importing, importing_of, in_file, no_file, opening, opening_of, taken}
-use Rattle.og_session.specs.Ends.{IsOfFile, StepEnds, is_saved_by, piece_or_line}
-use Rattle.og_session.specs.Headline.{HoldFiles, IsFileOf, IsStateOf, no_name}
+use Rattle.og_session.specs.Ends.{IsHeldState, IsLeft, IsOfFile, StepEnds, is_saved_by, piece_or_line}
+use Rattle.og_session.specs.Headline.{HoldFiles, IsFileOf, no_name}
+use Rattle.og_session.specs.Names.{IsAdded, IsDone, IsRunning, Watched}
+use Rattle.og_session.proofs.StateLemmas.{saved_running}
 use Rattle.og_session.specs.Stops.{stop_of_bytes, stop_of_files}
 use Rattle.og_session.specs.declared.fault.Fault.TheVariants as faults
 use Rattle.og_session.specs.declared.fault.Stop.TheVariants as stops
-use Rattle.og_session.proofs.AnswerLemmas.{table_known}
+use Rattle.og_view.proofs.BaseLemmas.{table_known}
 
 -- ---- the files
 
@@ -88,34 +89,35 @@ abbrev SavedMore : Type 0
 SavedMore = (db files : List (Held Relation)) (name file : List ℕ) (effects : List Effect) → IsWorldOf db files effects
     → IsWorldOf db (with_file file (found db name) files) (effects ++ saved name file ∷ [])
 
-module _ (start : Folder) (n : ℕ) (before : List Effect) (db : List (Held Relation)) (old : Option Folder) (state : IsStateOf start before db old) where
+module _ (start : Folder) (n : ℕ) (before : List Effect) (db : Watched) (old : Option Folder) (state : IsHeldState start before db old) where
   -- memory ran out, and all stayed
-  pub no-memory : (outcome : Result Effect Refused) (db' : List (Held Relation)) (new : Option Folder) → db' ≡ db → WhereTold IsSame old new → StepEnds start n before outcome db' new [] (Err stops.NoMemory)
+  pub no-memory : (outcome : Result Effect Refused) (db' : Watched) (new : Option Folder) → stored db'.names ≡ stored db.names → WhereTold IsSame old new → StepEnds start n before outcome db' new [] (Err stops.NoMemory)
   no-memory outcome db' new same files = (
-    record { files = state.files; held = same_files start state.files no_name old new files state.held; world = subst (λ d. IsWorldOf d state.files before) (sym same) state.world },
+    record { files = state.files; names = db.names; held = same_files start state.files no_name old new files state.held_files; world = state.running.world; left = same },
     (piece_or_line n before outcome, refl),
   )
 
   module _ (name file : List ℕ) (new : Option Folder) (others : WhereTold (IsSameBut file) old new) where
     -- the file was written
-    pub save-done : SavedMore → (columns : List Column) (rel : Relation) (bytes : List ℕ) (done : Unit {0}) → option_map (λ (k : What × List Column). k.1) (known_of db name) ≡ Some columns → rows_of db name ≡ Some rel
+    pub save-done : SavedMore → (columns : List Column) (rel : Relation) (bytes : List ℕ) (done : Unit {0}) → option_map (λ (k : What × List Column). k.1) (known_of db.names name) ≡ Some columns → rows_of db.names name ≡ Some rel
         → IsVersionTwo bytes columns rel (length rel) → HasFile new file (Some bytes) → StepEnds start n before (Ok (saved name file)) db new [] (Ok done)
     save-done law columns rel bytes done c r version has =
-        let (h, is, same_columns, same_rows) = held_of db name columns rel c r in (
+        let (h, is, same_columns, same_rows) = held_of db.names name columns rel c r in (
           saved name file,
           refl,
           record {
             files = kept_as file h ∷ state.files;
-            held = written_files start state.files name file old new others state.held h bytes has
+            held_files = written_files start state.files name file old new others state.held_files h bytes has
                 (subst (λ cs. IsVersionTwo bytes cs h.rows (length h.rows)) (sym same_columns) (subst (λ rs. IsVersionTwo bytes columns rs (length rs)) (sym same_rows) version));
-            world = subst (λ o. IsWorldOf db (with_file file o state.files) (before ++ saved name file ∷ [])) is (law db state.files name file before state.world);
+            running = subst (λ o. IsRunning db (with_file file o state.files) (before ++ saved name file ∷ [])) is
+                (saved_running db state.files name file before state.running (law db.names state.files name file before state.running.world));
           },
           refl,
         )
 
     -- the file was not written
     pub save-stopped : (refusal : FilesRefusal) → (refusal ≡ devices.NoMemory → WhereTold IsSame old new) → StepEnds start n before (Ok (saved name file)) db new [] (Err (stop_of_files refusal))
-    save-stopped devices.Failed want = (tt, record { files = state.files; held = unwritten_files start state.files name file old new others state.held; world = state.world }, refl)
+    save-stopped devices.Failed want = (tt, record { files = state.files; names = db.names; held = unwritten_files start state.files name file old new others state.held_files; world = state.running.world; left = refl }, refl)
     save-stopped devices.NoMemory want = no-memory (Ok (saved name file)) db new refl (want refl)
 
 -- ---- what is under a name
@@ -144,7 +146,7 @@ under start folder contents files sizes file whole held within =
     at None is None none both (Some b) kept None content holds = absurd holds
     at None is None none both (Some b) kept (Some c) content holds = was_there none b kept c content holds
 
-module _ (start : Folder) (n : ℕ) (before : List Effect) (outcome : Result Effect Refused) (db : List (Held Relation)) (folder : Option Folder) (state : IsStateOf start before db folder) where
+module _ (start : Folder) (n : ℕ) (before : List Effect) (outcome : Result Effect Refused) (db : Watched) (folder : Option Folder) (state : IsLeft start before db folder) where
   -- a statement that is refused for its file, which has this fault
   bad_file : (fault : FileRefusal) → fault ≢ refused.NoMemory → outcome ≡ Err (by_file (in_file fault)) → StepEnds start n before outcome db folder [] (Err (stop_of_bytes n fault))
   bad_file refused.Header some is = (by_file (in_file refused.Header), is, record { line = refl; status = refl }, state, refl)
@@ -186,11 +188,6 @@ pub record TableFiles : Type 0 where
   pub no_table : (bytes : List ℕ) (columns kept : List Column) (pairs : List Pair) (count : ℕ) → All (λ c. IsLowerWord c.name) columns → IsVersionTwo bytes kept pairs count
       → IsTableFault columns bytes refused.Header
 
--- the law of an IMPORT
-abbrev ImportedMore : Type 0
-ImportedMore = (old new files : List (Held Relation)) (name : List ℕ) (rows : List (List Value)) → ((d : ℤ) → IsRefDay d → names_at d new ≡ names_after d (names_at d old) (t.Insert name rows))
-    → AreWithin (sizes_at new) (name_sizes_after (sizes_at old) (t.Insert name rows)) → (effects : List Effect) → IsWorldOf old files effects → IsWorldOf new files (effects ++ imported name rows ∷ [])
-
 -- the columns of a name that is known, as the run knows them
 pub columns_known : (db : List (Held Relation)) (before : List Effect) (name : List ℕ) (columns : List Column) → known_of db ≡ known_after before
     → option_map (λ (k : What × List Column). k.1) (known_of db name) ≡ Some columns → columns_after before name ≡ columns
@@ -219,19 +216,19 @@ pub absent : (found : Found) (folder : Option Folder) (file buffer : List ℕ) �
 absent there.Present folder file buffer none has = absurd (true≢false none)
 absent there.Absent folder file buffer none has = has.0
 
-module _ (start : Folder) (contents : Contents) (whole : AreContents start contents) (n : ℕ) (before : List Effect) (db : List (Held Relation)) (name file : List ℕ)
-    (old new : Option Folder) (same : WhereTold IsSame old new) (state : IsStateOf start before db old) where
+module _ (start : Folder) (contents : Contents) (whole : AreContents start contents) (n : ℕ) (before : List Effect) (db : Watched) (name file : List ℕ)
+    (old new : Option Folder) (same : WhereTold IsSame old new) (state : IsHeldState start before db old) where
   -- the state, where nothing changed
-  stays : (db' : List (Held Relation)) → db' ≡ db → IsStateOf start before db' new
-  stays db' is = record { files = state.files; held = same_files start state.files no_name old new same state.held; world = subst (λ d. IsWorldOf d state.files before) (sym is) state.world }
+  stays : (db' : Watched) → stored db'.names ≡ stored db.names → IsLeft start before db' new
+  stays db' is = record { files = state.files; names = db.names; held = same_files start state.files no_name old new same state.held_files; world = state.running.world; left = is }
 
   -- where the files failed
   unread : (outcome : Result Effect Refused) → IsOfFile outcome → StepEnds start n before outcome db new [] (Err stops.FileFault)
-  unread outcome is = (is, record { files = state.files; held = same_files start state.files (is_saved_by outcome) old new same state.held; world = state.world }, refl)
+  unread outcome is = (is, record { files = state.files; names = db.names; held = same_files start state.files (is_saved_by outcome) old new same state.held_files; world = state.running.world; left = refl }, refl)
 
   -- what is known of a name with these bytes, or without a file
   told : (o : Option (List ℕ)) → HasFile old file o → (folder : Folder) × (folder file ≡ o) × HoldFiles no_name start state.files (Some folder)
-  told o has = at old has state.held
+  told o has = at old has state.held_files
     where
       at : (f : Option Folder) → HasFile f file o → HoldFiles no_name start state.files f → (folder : Folder) × (folder file ≡ o) × HoldFiles no_name start state.files (Some folder)
       at None has held = absurd held
@@ -239,7 +236,7 @@ module _ (start : Folder) (contents : Contents) (whole : AreContents start conte
 
   -- and how the run takes it
   how : (folder : Folder) → HoldFiles no_name start state.files (Some folder) → IsUnder state.files (sizes_after before).files contents folder file
-  how folder held = under start folder contents state.files (sizes_after before).files file whole held state.world.saved_sizes
+  how folder held = under start folder contents state.files (sizes_after before).files file whole held state.running.world.saved_sizes
 
   -- what an OPEN does
   abbrev opens : Result Effect Refused
@@ -275,20 +272,25 @@ module _ (start : Folder) (contents : Contents) (whole : AreContents start conte
 
   module _ (laws : SavedFiles) (bytes : List ℕ) (has : HasFile old file (Some bytes)) where
     -- the file was read and kept
-    pub open-done : ReopenedMore → OpenedMore → (columns : List Column) (rel : Relation) (db' : List (Held Relation)) (done : Unit {0}) → IsSavedFile bytes columns rel
-        → db' ≡ db ++ record { name = name; what = what.Kept; columns = columns; rows = rel } ∷ [] → StepEnds start n before opens db' new [] (Ok done)
-    open-done again another columns rel db' done read kept = let (folder, is, held) = told (Some bytes) has in by folder is (how folder held)
+    pub open-done : ReopenedMore → OpenedMore → (columns : List Column) (rel : Relation) (db' : Watched) (done : Unit {0}) → IsSavedFile bytes columns rel
+        → db'.names ≡ db.names ++ record { name = name; what = what.Kept; columns = columns; rows = rel } ∷ [] → IsAdded db db' → StepEnds start n before opens db' new [] (Ok done)
+    open-done again another columns rel db' done read kept added = let (folder, is, held) = told (Some bytes) has in by folder is (how folder held)
       where
         by : (folder : Folder) → folder file ≡ Some bytes → IsUnder state.files (sizes_after before).files contents folder file → StepEnds start n before opens db' new [] (Ok done)
         by folder is (was_saved h found_is m size bytes' now version) =
             let one = laws.one bytes h.columns columns h.rows rel (inr (subst (λ b. IsVersionTwo b h.columns h.rows (length h.rows)) (same_Some bytes' bytes (sym now ∙ is)) version)) read in
-            let world = again db state.files name file before state.world in
-            let held = same_files start state.files no_name old new same state.held in
-            let as_kept : with_name name (found state.files file) db ≡ db' =
-            ap (λ o. with_name name o db) found_is ∙ ap₂ (λ cs rs. db ++ record { name = name; what = what.Kept; columns = cs; rows = rs } ∷ []) one.0 one.1 ∙ sym kept in (
+            let world = again db.names state.files name file before state.running.world in
+            let held = same_files start state.files no_name old new same state.held_files in
+            let as_kept : with_name name (found state.files file) db.names ≡ db'.names =
+            ap (λ o. with_name name o db.names) found_is ∙ ap₂ (λ cs rs. db.names ++ record { name = name; what = what.Kept; columns = cs; rows = rs } ∷ []) one.0 one.1 ∙ sym kept in (
               reopened name file,
               ap (λ o. taken (opening name file o (contents file))) size,
-              record { files = state.files; held = held; world = subst (λ d. IsWorldOf d state.files (before ++ reopened name file ∷ [])) as_kept world },
+              record {
+                files = state.files;
+                held_files = held;
+                running = added state.files before (reopened name file) (kept_as name m) state.running (subst (λ d. IsWorldOf d state.files (before ++ reopened name file ∷ [])) as_kept world)
+                    (ap (λ o. with_name name o (sizes_after before).names) size) refl;
+              },
               refl,
             )
         by folder is (was_there none bytes' now content content_is holds) = of content.saved refl (subst (λ b. IsSavedContent b content.saved) (same_Some bytes' bytes (sym now ∙ is)) holds.saved)
@@ -296,13 +298,18 @@ module _ (start : Folder) (contents : Contents) (whole : AreContents start conte
             of : (r : Result (List Column × List Pair) FileRefusal) → content.saved ≡ r → IsSavedContent bytes r → StepEnds start n before opens db' new [] (Ok done)
             of (Ok table) saved_is file_is =
                 let one = laws.one bytes columns table.0 rel table.1 read file_is in
-                let world = another db state.files name table.0 table.1 before state.world in
-                let held = same_files start state.files no_name old new same state.held in
-                let as_kept : db ++ record { name = name; what = what.Kept; columns = table.0; rows = table.1 } ∷ [] ≡ db' =
-                ap₂ (λ cs rs. db ++ record { name = name; what = what.Kept; columns = cs; rows = rs } ∷ []) (sym one.0) (sym one.1) ∙ sym kept in (
+                let world = another db.names state.files name table.0 table.1 before state.running.world in
+                let held = same_files start state.files no_name old new same state.held_files in
+                let as_kept : db.names ++ record { name = name; what = what.Kept; columns = table.0; rows = table.1 } ∷ [] ≡ db'.names =
+                ap₂ (λ cs rs. db.names ++ record { name = name; what = what.Kept; columns = cs; rows = rs } ∷ []) (sym one.0) (sym one.1) ∙ sym kept in (
                   opened name table.0 table.1,
                   ap₂ (λ o c. taken (opening name file o c)) none content_is ∙ ap (λ r. taken (opening_of name r)) saved_is,
-                  record { files = state.files; held = held; world = subst (λ d. IsWorldOf d state.files (before ++ opened name table.0 table.1 ∷ [])) as_kept world },
+                  record {
+                    files = state.files;
+                    held_files = held;
+                    running = added state.files before (opened name table.0 table.1) (record { name = name; what = what.Kept; columns = table.0; rows = length table.1 }) state.running
+                        (subst (λ d. IsWorldOf d state.files (before ++ opened name table.0 table.1 ∷ [])) as_kept world) refl refl;
+                  },
                   refl,
                 )
             of (Err fault) saved_is (some, bad) = absurd (some (laws.no_fault bytes columns rel fault read bad))
@@ -365,10 +372,9 @@ module _ (start : Folder) (contents : Contents) (whole : AreContents start conte
     saved_header h bytes' is version = laws.no_table bytes columns h.columns h.rows (length h.rows) words (subst (λ b. IsVersionTwo b h.columns h.rows (length h.rows)) is version)
 
     -- the file was read, and its rows inserted
-    pub import-done : ImportedMore → (rows : List (List Value)) (db' : List (Held Relation)) (done : Unit {0}) → IsTableFile columns bytes rows
-        → ((d : ℤ) → IsRefDay d → names_at d db' ≡ names_after d (names_at d db) (t.Insert name rows)) → AreWithin (sizes_at db') (name_sizes_after (sizes_at db) (t.Insert name rows))
+    pub import-done : (rows : List (List Value)) (db' : Watched) (done : Unit {0}) → IsTableFile columns bytes rows → IsDone db db' (imported name rows)
         → StepEnds start n before imports db' new [] (Ok done)
-    import-done more rows db' done read law size = let (folder, is, held) = told (Some bytes) has in by folder is (how folder held)
+    import-done rows db' done read law = let (folder, is, held) = told (Some bytes) has in by folder is (how folder held)
       where
         by : (folder : Folder) → folder file ≡ Some bytes → IsUnder state.files (sizes_after before).files contents folder file → StepEnds start n before imports db' new [] (Ok done)
         by folder is (was_saved h found_is m size bytes' now version) =
@@ -377,13 +383,12 @@ module _ (start : Folder) (contents : Contents) (whole : AreContents start conte
             of (content.rows columns) (imports_there none content content_is) (subst (λ b. IsTableContent columns b (content.rows columns)) (same_Some bytes' bytes (sym now ∙ is)) (holds.rows columns))
           where
             of : (r : Result (List (List Value)) FileRefusal) → imports ≡ taken (importing_of name r) → IsTableContent columns bytes r → StepEnds start n before imports db' new [] (Ok done)
-            of (Ok others) imports_is file_is =
-                let world = more db db' state.files name rows law size before state.world in (
-                  imported name rows,
-                  imports_is ∙ ap (λ rs. Ok (imported name rs)) (laws.one columns bytes others rows file_is read),
-                  record { files = state.files; held = same_files start state.files no_name old new same state.held; world = world },
-                  refl,
-                )
+            of (Ok others) imports_is file_is = (
+              imported name rows,
+              imports_is ∙ ap (λ rs. Ok (imported name rs)) (laws.one columns bytes others rows file_is read),
+              record { files = state.files; held_files = same_files start state.files no_name old new same state.held_files; running = law state.files before state.running },
+              refl,
+            )
             of (Err fault) imports_is (some, bad) = absurd (some (laws.no_fault columns bytes rows fault read bad))
         by folder is (was_absent none now content) = cc (is, now)
 

@@ -9,11 +9,14 @@ use Rattle.og_io.specs.Folders.{Folder}
 use Rattle.og_db.specs.Database.{Relation}
 use Rattle.og_db.specs.Effects.{Effect, on_names, saved, reopened, opened, imported}
 use Rattle.og_db.specs.Held.{Held}
+use Rattle.og_db.specs.Runs.{stored}
 use Rattle.og_session.specs.Contents.{Contents, Refused, by_checks, by_file, outcome}
-use Rattle.og_session.specs.Ends.{RunEnds, StepEnds, IsUnreported, IsOfFile, is_saved_by, piece_or_line}
+use Rattle.og_session.specs.Ends.{IsHeldState, RunEnds, StepEnds, IsUnreported, IsOfFile, is_saved_by, piece_or_line}
 use Rattle.og_session.specs.Headline.{IsCut, IsCutShort, IsCutAtFile, IsCutAtPiece, IsAtFile, HoldFiles, IsStateBut, IsStateOf, is_written_by, next_piece}
+use Rattle.og_session.specs.Names.{Watched}
 use Rattle.og_session.specs.Output.{piece_of, output_from}
 use Rattle.og_session.specs.Runs.{Run, after_outcome, run_from}
+use Rattle.og_session.proofs.StateLemmas.{left_state}
 use Rattle.og_session.specs.declared.fault.Stop.{Stop}
 use Rattle.og_session.specs.declared.fault.Stop.TheVariants as stops
 
@@ -79,17 +82,17 @@ module _ (start : Folder) (contents : Contents) where
       by (Err (by_file fault)) = record { after = []; parts = sym (append-nil before); piece = refl; name = λ other h. h; at = λ h. refl }
 
   -- after so many statements: those before were carried out, what they write was written, and the run is that of those that are left
-  pub record IsAt (stmts : List Stmt) (i : ℕ) (db : List (Held Relation)) (folder : Option Folder) (old now : Option (List ℕ)) : Type 0 where
+  pub record IsAt (stmts : List Stmt) (i : ℕ) (held : Watched) (folder : Option Folder) (old now : Option (List ℕ)) : Type 0 where
     pub before : List Effect
-    pub state : IsStateOf start before db folder
+    pub state : IsHeldState start before held folder
     pub written : Appends old now (output_from [] before)
     pub rest : run_from contents 1 [] stmts ≡ run_from contents (suc i) before (drop i stmts)
 
   -- a statement more was carried out
-  pub turn-more : (stmts rest : List Stmt) (i n m : ℕ) (stmt : Stmt) (db new_db : List (Held Relation)) (folder new_folder : Option Folder) (old now new : Option (List ℕ)) (at : IsAt stmts i db folder old now)
+  pub turn-more : (stmts rest : List Stmt) (i n m : ℕ) (stmt : Stmt) (held new_held : Watched) (folder new_folder : Option Folder) (old now new : Option (List ℕ)) (at : IsAt stmts i held folder old now)
       → drop i stmts ≡ stmt ∷ rest → drop m stmts ≡ rest → suc i ≡ n → suc m ≡ suc n
-      → (text : List ℕ) × Appends now new text × StepEnds start n at.before (outcome contents at.before stmt) new_db new_folder text (Ok tt) → IsAt stmts m new_db new_folder old new
-  turn-more stmts rest i n m stmt db new_db folder new_folder old now new at left right one two (text, appended, (effect, good, state, piece)) = record {
+      → (text : List ℕ) × Appends now new text × StepEnds start n at.before (outcome contents at.before stmt) new_held new_folder text (Ok tt) → IsAt stmts m new_held new_folder old new
+  turn-more stmts rest i n m stmt held new_held folder new_folder old now new at left right one two (text, appended, (effect, good, state, piece)) = record {
     before = at.before ++ effect ∷ [];
     state = state;
     written = subst (Appends old new) (ap (λ t. output_from [] at.before ++ t) piece ∙ sym (output_from-push at.before effect))
@@ -100,10 +103,10 @@ module _ (start : Folder) (contents : Contents) where
   }
 
   -- the run was stopped at a statement
-  pub turn-stopped : (stmts rest : List Stmt) (i n : ℕ) (stmt : Stmt) (db new_db : List (Held Relation)) (folder new_folder : Option Folder) (old now new : Option (List ℕ)) (stop : Stop) (at : IsAt stmts i db folder old now)
-      → drop i stmts ≡ stmt ∷ rest → suc i ≡ n → (text : List ℕ) × Appends now new text × StepEnds start n at.before (outcome contents at.before stmt) new_db new_folder text (Err stop)
-      → (text : List ℕ) × Appends old new text × RunEnds (run_from contents 1 [] stmts) start new_db new_folder text (Err stop)
-  turn-stopped stmts rest i n stmt db new_db folder new_folder old now new stop at left one (text, appended, ends) =
+  pub turn-stopped : (stmts rest : List Stmt) (i n : ℕ) (stmt : Stmt) (held new_held : Watched) (folder new_folder : Option Folder) (old now new : Option (List ℕ)) (stop : Stop) (at : IsAt stmts i held folder old now)
+      → drop i stmts ≡ stmt ∷ rest → suc i ≡ n → (text : List ℕ) × Appends now new text × StepEnds start n at.before (outcome contents at.before stmt) new_held new_folder text (Err stop)
+      → (text : List ℕ) × Appends old new text × RunEnds (run_from contents 1 [] stmts) start (stored new_held.names) new_folder text (Err stop)
+  turn-stopped stmts rest i n stmt held new_held folder new_folder old now new stop at left one (text, appended, ends) =
       (output_from [] at.before ++ text, Appends-trans old now new (output_from [] at.before) text at.written appended, by stop ends)
     where
       here : Run
@@ -118,36 +121,36 @@ module _ (start : Folder) (contents : Contents) where
       cut : IsPrefix text (piece_or_line n at.before (outcome contents at.before stmt)) → IsCut here (output_from [] at.before ++ text)
       cut begun = record { before = at.before; after = next.after; front = text; parts = next.parts; written = refl; begun = subst (IsPrefix text) (sym next.piece) begun }
 
-      but : IsStateBut (is_saved_by (outcome contents at.before stmt)) start at.before new_db new_folder → IsStateBut (is_written_by next.after) start at.before new_db new_folder
-      but state = record { files = state.files; held = held new_folder state.held; world = state.world }
+      but : IsStateBut (is_saved_by (outcome contents at.before stmt)) start at.before (stored new_held.names) new_folder → IsStateBut (is_written_by next.after) start at.before (stored new_held.names) new_folder
+      but state = record { files = state.files; names = state.names; held = but_files new_folder state.held; world = state.world; left = state.left }
         where
-          held : (folder : Option Folder) → HoldFiles (is_saved_by (outcome contents at.before stmt)) start state.files folder → HoldFiles (is_written_by next.after) start state.files folder
-          held None h = absurd h
-          held (Some folder) h = λ name no. h name (λ yes. no (next.name name yes))
+          but_files : (folder : Option Folder) → HoldFiles (is_saved_by (outcome contents at.before stmt)) start state.files folder → HoldFiles (is_written_by next.after) start state.files folder
+          but_files None h = absurd h
+          but_files (Some folder) h = λ name no. h name (λ yes. no (next.name name yes))
 
-      by : (s : Stop) → StepEnds start n at.before (outcome contents at.before stmt) new_db new_folder text (Err s)
-          → RunEnds (run_from contents 1 [] stmts) start new_db new_folder (output_from [] at.before ++ text) (Err s)
+      by : (s : Stop) → StepEnds start n at.before (outcome contents at.before stmt) new_held new_folder text (Err s)
+          → RunEnds (run_from contents 1 [] stmts) start (stored new_held.names) new_folder (output_from [] at.before ++ text) (Err s)
       by (stops.Fault fault) (refusal, bad, is, state, none) =
-          subst (λ r. RunEnds r start new_db new_folder (output_from [] at.before ++ text) (Err (stops.Fault fault)))
+          subst (λ r. RunEnds r start (stored new_held.names) new_folder (output_from [] at.before ++ text) (Err (stops.Fault fault)))
           (sym (run ∙ ap (after_outcome n at.before (λ effect. run_from contents (suc n) (at.before ++ effect ∷ []) rest)) bad))
           (record { written = ap (λ t. output_from [] at.before ++ t) none ∙ append-nil (output_from [] at.before); state = state; last = sym is.line; ended = sym is.status })
       by stops.ReadFault h = absurd h
       by stops.FileFault (is, state, none) =
-          subst (λ r. IsCutAtFile r start new_db new_folder (output_from [] at.before ++ text)) (sym run)
+          subst (λ r. IsCutAtFile r start (stored new_held.names) new_folder (output_from [] at.before ++ text)) (sym run)
           (record { cut = cut (subst (λ t. IsPrefix t (piece_or_line n at.before (outcome contents at.before stmt))) (sym none) (piece_or_line n at.before (outcome contents at.before stmt), refl)); state = but state; at = next.at is })
       by stops.WriteFault (state, begun, some) =
-          subst (λ r. IsCutAtPiece r start new_db new_folder (output_from [] at.before ++ text)) (sym run)
+          subst (λ r. IsCutAtPiece r start (stored new_held.names) new_folder (output_from [] at.before ++ text)) (sym run)
           (record { short = record { cut = cut begun; state = state }; some = λ e. some (sym next.piece ∙ e) })
-      by stops.NoMemory (state, begun) = subst (λ r. IsCutShort r start new_db new_folder (output_from [] at.before ++ text)) (sym run) (record { cut = cut begun; state = state })
+      by stops.NoMemory (state, begun) = subst (λ r. IsCutShort r start (stored new_held.names) new_folder (output_from [] at.before ++ text)) (sym run) (record { cut = cut begun; state = state })
 
   -- no statement is left
-  pub turn-last : (stmts : List Stmt) (i : ℕ) (db : List (Held Relation)) (folder : Option Folder) (old now : Option (List ℕ)) → IsAt stmts i db folder old now → length stmts ≤ i
-      → (text : List ℕ) × Appends old now text × RunEnds (run_from contents 1 [] stmts) start db folder text (Ok tt)
-  turn-last stmts i db folder old now at end = (
+  pub turn-last : (stmts : List Stmt) (i : ℕ) (held : Watched) (folder : Option Folder) (old now : Option (List ℕ)) → IsAt stmts i held folder old now → length stmts ≤ i
+      → (text : List ℕ) × Appends old now text × RunEnds (run_from contents 1 [] stmts) start (stored held.names) folder text (Ok tt)
+  turn-last stmts i held folder old now at end = (
     output_from [] at.before,
     at.written,
-    subst (λ r. IsUnreported r start db folder (output_from [] at.before) [] 0) (sym (at.rest ∙ ap (run_from contents (suc i) at.before) (drop_all i stmts end)))
-        (record { written = refl; state = at.state; last = refl; ended = refl }),
+    subst (λ r. IsUnreported r start (stored held.names) folder (output_from [] at.before) [] 0) (sym (at.rest ∙ ap (run_from contents (suc i) at.before) (drop_all i stmts end)))
+        (record { written = refl; state = left_state start at.before held folder at.state; last = refl; ended = refl }),
   )
 
   -- no statement was begun

@@ -1,5 +1,7 @@
--- Why a source has no statements to run, and that the script of `at` has no statement that is not built.
-use Rattle.std.proofs.Common.{◌≡◌, ◌≤◌, ℕ, ℤ, List, None, length, refl}
+-- Why a source has no statements to run, and that the script of `at` has no LIVE.
+use Rattle.std.proofs.Common.{◌≤◌, ℕ, ℤ, List, length, refl}
+use Rattle.std.specs.List.{All}
+use Rattle.std.proofs.lemmas.List.Elements.{All-from_recursion}
 use Rattle.og_lex.specs.Faults as lexer
 use Rattle.og_lex.specs.Grammar.{IsLexed}
 use Rattle.og_lex.specs.declared.refusal.LexRefusal.{LexRefusal}
@@ -10,7 +12,8 @@ use Rattle.og_parse.specs.declared.refusal.ParseRefusal.{ParseRefusal}
 use Rattle.og_parse.specs.declared.refusal.ParseRefusal.TheVariants as parses
 use Rattle.og_session.specs.Commands.{at_script}
 use Rattle.og_session.specs.Ends.{IsScriptStop}
-use Rattle.og_session.specs.Runs.{no_tokens, no_tree, first_unbuilt, max_source}
+use Rattle.og_session.specs.Lives.{IsLiveStmt}
+use Rattle.og_session.specs.Runs.{no_tokens, no_tree, max_source}
 use Rattle.og_session.specs.Stops.{stop_of_lex, stop_of_parse}
 
 -- a source without tokens
@@ -28,7 +31,7 @@ parse_stop source tokens (parses.TooDeep n) short lexed fault = no_tree short (p
 parse_stop source tokens (parses.Literal n) short lexed fault = no_tree short (parses.Literal n) (tokens, lexed, fault) refl
 parse_stop source tokens parses.NoMemory short lexed fault = tt
 
--- all statements of `at` are built
-pub at_built : (first : ℕ) (file : List ℕ) (day : ℤ) → first_unbuilt first (at_script file day) ≡ None
+-- no statement of `at` is a LIVE
+pub at_live : (file : List ℕ) (day : ℤ) → All IsLiveStmt (at_script file day)
 unfolding at_script
-at_built first file day = refl
+at_live file day = All-from_recursion IsLiveStmt (at_script file day) (tt, (tt, tt))

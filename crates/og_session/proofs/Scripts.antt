@@ -1,5 +1,5 @@
 -- The bytes of a source are one script, or have one fault.
-use Rattle.std.proofs.Common.{◌≡◌, ◌≤◌, ◌⊎◌, inl, inr, ⊎_elim, ℕ, List, Option, Some, None, length, refl, sym, ap, ◌∙◌, subst, arith}
+use Rattle.std.proofs.Common.{◌≡◌, ◌≤◌, ◌⊎◌, inl, inr, ⊎_elim, ℕ, List, length, refl, sym, ap, ◌∙◌, subst, arith}
 use Rattle.std.proofs.lemmas.Bool.{cases_lt}
 use Rattle.og_lex.specs.Faults as lexer
 use Rattle.og_lex.specs.Grammar.{IsLexed}
@@ -7,10 +7,9 @@ use Rattle.og_lex.specs.declared.refusal.LexRefusal.{LexRefusal}
 use Rattle.og_lex.specs.declared.token.Token.{Token}
 use Rattle.og_parse.specs.Script as parser
 use Rattle.og_parse.specs.declared.refusal.ParseRefusal.{ParseRefusal}
-use Rattle.og_parse.specs.declared.refusal.ParseRefusal.TheVariants as parses
 use Rattle.og_syntax.specs.declared.tree.Stmt.{Stmt}
 use Rattle.og_session.specs.Lines.{too_long_line, lex_line, parse_line}
-use Rattle.og_session.specs.Runs.{IsScript, IsScriptFault, too_long, no_tokens, no_tree, not_built, IsTreeFault, AreTrees, first_unbuilt, max_source}
+use Rattle.og_session.specs.Runs.{IsScript, IsScriptFault, too_long, no_tokens, no_tree, IsTreeFault, AreTrees, max_source}
 
 -- a source is a script, or has a fault
 abbrev pub IsScriptOrNot : List ℕ → Type 0
@@ -35,13 +34,9 @@ module _ (choices : Choices) where
   pub script_or_fault : (source : List ℕ) → IsScriptOrNot source
   script_or_fault source = ⊎_elim (λ long. inr (too_long_line, too_long long refl)) of_tokens (cases_lt max_source (length source))
     where
-      of_stmts : length source ≤ max_source → (stmts : List Stmt) → AreTrees source stmts → (o : Option ℕ) → first_unbuilt 1 stmts ≡ o → IsScriptOrNot source
-      of_stmts short stmts trees None built = inl (stmts, record { short = short; trees = trees; built = built })
-      of_stmts short stmts trees (Some n) unbuilt = inr (parse_line (parses.Syntax n), not_built short stmts trees n unbuilt refl)
-
       of_trees : length source ≤ max_source → (tokens : List Token) → IsLexed source tokens → IsScriptOrNot source
       of_trees short tokens lexed =
-          ⊎_elim (λ tree. of_stmts short tree.0 (tokens, lexed, tree.1) (first_unbuilt 1 tree.0) refl)
+          ⊎_elim (λ tree. inl (tree.0, record { short = short; trees = (tokens, lexed, tree.1) }))
           (λ fault. inr (parse_line fault.0, no_tree short fault.0 (tokens, lexed, fault.1) refl)) (choices.some_tree source tokens)
 
       of_tokens : length source ≤ max_source → IsScriptOrNot source
@@ -63,18 +58,6 @@ module _ (laws : Laws) where
   no_tree_fault source xs f (ts, lexed, tree) (us, other, fault) =
       absurd (laws.whole_tree source ts xs f tree (subst (λ l. parser.IsFirstFault source l f) (laws.one_list source us ts other lexed) fault))
 
-  -- the trees have one first statement that does not run at most
-  one_unbuilt : (source : List ℕ) (xs ys : List Stmt) (m n : Option ℕ) → AreTrees source xs → AreTrees source ys → first_unbuilt 1 xs ≡ m → first_unbuilt 1 ys ≡ n → m ≡ n
-  one_unbuilt source xs ys m n k l e f = sym e ∙ ap (first_unbuilt 1) (one_trees source xs ys k l) ∙ f
-
-  -- and either there is one or there is none
-  unbuilt_or_none : (source : List ℕ) (xs ys : List Stmt) (n : ℕ) → AreTrees source xs → AreTrees source ys → first_unbuilt 1 xs ≡ Some n → first_unbuilt 1 ys ≡ None → ⊥
-  unbuilt_or_none source xs ys n k l e f = let both : Some n ≡ None = one_unbuilt source xs ys (Some n) None k l e f in cc both
-
-  -- the line of the one statement
-  one_line : (m n : ℕ) → Some m ≡ Some n → parse_line (parses.Syntax m) ≡ parse_line (parses.Syntax n)
-  one_line m n e = let same : m ≡ n = cc e in ap (λ k. parse_line (parses.Syntax k)) same
-
   -- a source is one script at most
   pub one_script : (source : List ℕ) (xs ys : List Stmt) → IsScript source xs → IsScript source ys → xs ≡ ys
   one_script source xs ys x y = one_trees source xs ys x.trees y.trees
@@ -84,23 +67,15 @@ module _ (laws : Laws) where
   no_fault source line stmts is (too_long long e) = omega (arith, long, is.short)
   no_fault source line stmts is (no_tokens short fault k e) = laws.whole_list source is.trees.0 fault is.trees.1 k
   no_fault source line stmts is (no_tree short fault k e) = no_tree_fault source stmts fault is.trees k
-  no_fault source line stmts is (not_built short others trees n unbuilt e) = unbuilt_or_none source others stmts n trees is.trees unbuilt is.built
 
   -- the fault of a source has one line
   pub one_fault_line : (source a b : List ℕ) → IsScriptFault source a → IsScriptFault source b → a ≡ b
   one_fault_line source a b (too_long l1 e1) (too_long l2 e2) = e1 ∙ sym e2
   one_fault_line source a b (too_long l1 e1) (no_tokens s2 f2 k2 e2) = absurd (omega (arith, l1, s2))
   one_fault_line source a b (too_long l1 e1) (no_tree s2 f2 k2 e2) = absurd (omega (arith, l1, s2))
-  one_fault_line source a b (too_long l1 e1) (not_built s2 x2 k2 n2 m2 e2) = absurd (omega (arith, l1, s2))
   one_fault_line source a b (no_tokens s1 f1 k1 e1) (too_long l2 e2) = absurd (omega (arith, l2, s1))
   one_fault_line source a b (no_tokens s1 f1 k1 e1) (no_tokens s2 f2 k2 e2) = e1 ∙ ap lex_line (laws.one_lex_fault source f1 f2 k1 k2) ∙ sym e2
   one_fault_line source a b (no_tokens s1 f1 k1 e1) (no_tree s2 f2 k2 e2) = absurd (laws.whole_list source k2.0 f1 k2.1 k1)
-  one_fault_line source a b (no_tokens s1 f1 k1 e1) (not_built s2 x2 k2 n2 m2 e2) = absurd (laws.whole_list source k2.0 f1 k2.1 k1)
   one_fault_line source a b (no_tree s1 f1 k1 e1) (too_long l2 e2) = absurd (omega (arith, l2, s1))
   one_fault_line source a b (no_tree s1 f1 k1 e1) (no_tokens s2 f2 k2 e2) = absurd (laws.whole_list source k1.0 f2 k1.1 k2)
   one_fault_line source a b (no_tree s1 f1 k1 e1) (no_tree s2 f2 k2 e2) = e1 ∙ ap parse_line (one_tree_fault source f1 f2 k1 k2) ∙ sym e2
-  one_fault_line source a b (no_tree s1 f1 k1 e1) (not_built s2 x2 k2 n2 m2 e2) = no_tree_fault source x2 f1 k2 k1
-  one_fault_line source a b (not_built s1 x1 k1 n1 m1 e1) (too_long l2 e2) = absurd (omega (arith, l2, s1))
-  one_fault_line source a b (not_built s1 x1 k1 n1 m1 e1) (no_tokens s2 f2 k2 e2) = absurd (laws.whole_list source k1.0 f2 k1.1 k2)
-  one_fault_line source a b (not_built s1 x1 k1 n1 m1 e1) (no_tree s2 f2 k2 e2) = no_tree_fault source x1 f2 k1 k2
-  one_fault_line source a b (not_built s1 x1 k1 n1 m1 e1) (not_built s2 x2 k2 n2 m2 e2) = e1 ∙ one_line n1 n2 (one_unbuilt source x1 x2 (Some n1) (Some n2) k1 k2 m1 m2) ∙ sym e2

@@ -1,20 +1,20 @@
 -- How the code's run ends. Beside private functions alone.
-use Rattle.std.specs.Prelude.{◌≡◌, ◌++◌, ◌⊎◌, ⊤, ℕ, Bool, true, false, List, [], ◌∷◌, Option, Some, Contains, Result, Ok, Err}
+use Rattle.std.specs.Prelude.{◌≡◌, ◌++◌, ◌⊎◌, ⊤, ℕ, List, [], ◌∷◌, Option, Some, Contains, Result, Ok, Err}
 use Rattle.og_base.specs.Told.{IsPrefix}
-use Rattle.og_query.specs.declared.typed.Typed.{Typed}
-use Rattle.og_query.specs.declared.typed.Typed.TheVariants as t
 use Rattle.og_io.specs.Folders.{Folder}
 use Rattle.og_words.specs.declared.command.Command.{Command}
 use Rattle.og_words.specs.declared.command.Command.TheVariants as commands
 use Rattle.og_db.specs.Database.{Relation}
 use Rattle.og_db.specs.Effects.{Effect, on_names, saved}
 use Rattle.og_db.specs.Held.{Held}
+use Rattle.og_db.specs.Runs.{stored}
 use Rattle.og_lex.specs.declared.refusal.LexRefusal.TheVariants as lexes
 use Rattle.og_parse.specs.declared.refusal.ParseRefusal.TheVariants as parses
 use Rattle.og_session.specs.Contents.{Refused, by_checks, by_file, no_file, in_file}
 use Rattle.og_file.specs.declared.refusal.FileRefusal.TheVariants as files
-use Rattle.og_session.specs.Headline.{IsCutShort, IsCutAtPiece, IsCutAtFile, IsStateBut, IsStateOf}
+use Rattle.og_session.specs.Headline.{IsCutShort, IsCutAtPiece, IsCutAtFile, HoldFiles, IsStateBut, IsStateOf, no_name}
 use Rattle.og_session.specs.Lines.{words_line, too_long_line, lex_line, parse_line, check_line, file_line, refused_line, refused_status}
+use Rattle.og_session.specs.Names.{Watched, IsRunning}
 use Rattle.og_session.specs.Output.{piece_of, output_from}
 use Rattle.og_session.specs.Runs.{Run, IsNoCommand, IsRun, IsScriptFault, output}
 use Rattle.og_session.specs.declared.fault.Fault.{Fault}
@@ -117,16 +117,30 @@ pub record IsFaultOf (n : ℕ) (refusal : Refused) (fault : Fault) : Type 0 wher
   pub line : fault_line fault ≡ refused_line n refusal
   pub status : fault_status fault ≡ refused_status refusal
 
+-- what a run holds and the files are the state after these statements
+pub record IsHeldState (start : Folder) (effects : List Effect) (held : Watched) (folder : Option Folder) : Type 0 where
+  pub files : List (Held Relation)
+  pub held_files : HoldFiles no_name start files folder
+  pub running : IsRunning held files effects
+
+-- what a run would leave is the state after these statements, but for the files that are excepted
+abbrev pub IsLeftBut : (List ℕ → Type 0) → Folder → List Effect → Watched → Option Folder → Type 0
+IsLeftBut except start effects held folder = IsStateBut except start effects (stored held.names) folder
+
+-- the same, without exception
+abbrev pub IsLeft : Folder → List Effect → Watched → Option Folder → Type 0
+IsLeft = IsLeftBut no_name
+
 -- how one statement ends, after those before, where it should do this or be refused so: with its piece and its world, with its fault, or with a front of what it writes
-abbrev pub StepEnds : Folder → ℕ → List Effect → Result Effect Refused → List (Held Relation) → Option Folder → List ℕ → Result (Unit {0}) Stop → Type 0
-StepEnds start n before outcome db folder text (Ok done) =
-    (effect : Effect) × (outcome ≡ Ok effect) × IsStateOf start (before ++ effect ∷ []) db folder × (text ≡ piece_of before effect)
-StepEnds start n before outcome db folder text (Err (stops.Fault fault)) =
-    (refusal : Refused) × (outcome ≡ Err refusal) × IsFaultOf n refusal fault × IsStateOf start before db folder × (text ≡ [])
-StepEnds start n before outcome db folder text (Err stops.ReadFault) = ⊥
-StepEnds start n before outcome db folder text (Err stops.FileFault) = IsOfFile outcome × IsStateBut (is_saved_by outcome) start before db folder × (text ≡ [])
-StepEnds start n before outcome db folder text (Err stops.WriteFault) = IsStateOf start before db folder × IsPrefix text (piece_or_line n before outcome) × (¬ (piece_or_line n before outcome ≡ []))
-StepEnds start n before outcome db folder text (Err stops.NoMemory) = IsStateOf start before db folder × IsPrefix text (piece_or_line n before outcome)
+abbrev pub StepEnds : Folder → ℕ → List Effect → Result Effect Refused → Watched → Option Folder → List ℕ → Result (Unit {0}) Stop → Type 0
+StepEnds start n before outcome held folder text (Ok done) =
+    (effect : Effect) × (outcome ≡ Ok effect) × IsHeldState start (before ++ effect ∷ []) held folder × (text ≡ piece_of before effect)
+StepEnds start n before outcome held folder text (Err (stops.Fault fault)) =
+    (refusal : Refused) × (outcome ≡ Err refusal) × IsFaultOf n refusal fault × IsLeft start before held folder × (text ≡ [])
+StepEnds start n before outcome held folder text (Err stops.ReadFault) = ⊥
+StepEnds start n before outcome held folder text (Err stops.FileFault) = IsOfFile outcome × IsLeftBut (is_saved_by outcome) start before held folder × (text ≡ [])
+StepEnds start n before outcome held folder text (Err stops.WriteFault) = IsLeft start before held folder × IsPrefix text (piece_or_line n before outcome) × (¬ (piece_or_line n before outcome ≡ []))
+StepEnds start n before outcome held folder text (Err stops.NoMemory) = IsLeft start before held folder × IsPrefix text (piece_or_line n before outcome)
 
 -- a statement of files is stopped by its file, by the files or by want of memory
 abbrev pub IsFileStop : Result (Unit {0}) Stop → Type 0
@@ -148,11 +162,6 @@ abbrev pub IsStepStop : Result (Unit {0}) Stop → Type 0
 IsStepStop (Err (stops.Fault fault)) = (fault_status fault ≡ 4) ⊎ (fault_status fault ≡ 5)
 IsStepStop (Err stops.ReadFault) = ⊥
 IsStepStop _ = ⊤
-
--- whether a statement is built: all are but LIVE
-abbrev pub is_built_typed : Typed → Bool
-is_built_typed (t.Live name query) = false
-is_built_typed _ = true
 
 -- ---- the run
 

@@ -7,7 +7,7 @@ use Rattle.og_file.specs.SavedFile.{IsVersionTwo}
 use Rattle.og_db.specs.Database.{Relation}
 use Rattle.og_db.specs.Effects.{Effect, on_names, saved}
 use Rattle.og_db.specs.Held.{Held, found}
-use Rattle.og_db.specs.Runs.{IsWorldOf}
+use Rattle.og_db.specs.Runs.{IsWorldOf, stored}
 use Rattle.og_session.specs.Lines.{no_file_line}
 use Rattle.og_session.specs.Output.{piece_of, output_from}
 use Rattle.og_session.specs.Runs.{Run, IsRun, IsNoCommand, IsScriptFault, IsDefinedRun, output}
@@ -71,11 +71,14 @@ abbrev pub HoldFiles : (List ℕ → Type 0) → Folder → List (Held Relation)
 HoldFiles except start files None = ⊥
 HoldFiles except start files (Some folder) = (name : List ℕ) → ¬ except name → IsFileOf (found files name) (start name) (folder name)
 
--- on each day the database and the files that were saved are the world of that day after the statements, but for the files that are excepted
+-- on each day some names and the files that were saved are the world of that day after the statements, but for the files that are excepted;
+-- the database holds these names but the live ones, which are neither tables nor kept results
 pub record IsStateBut (except : List ℕ → Type 0) (start : Folder) (effects : List Effect) (db : List (Held Relation)) (folder : Option Folder) : Type 0 where
   pub files : List (Held Relation)
+  pub names : List (Held Relation)
   pub held : HoldFiles except start files folder
-  pub world : IsWorldOf db files effects
+  pub world : IsWorldOf names files effects
+  pub left : db ≡ stored names
 
 -- no name
 abbrev pub no_name : List ℕ → Type 0

@@ -1,14 +1,12 @@
 -- Defined run: which statements a run carries out, what it writes, and with which status it ends.
-use Rattle.std.specs.Prelude.{◌≡◌, ◌≤◌, ◌<◌, ◌++◌, ℕ, suc, Bool, true, false, List, [], ◌∷◌, Option, Some, None, Result, Ok, Err, length, if◌then◌else◌}
+use Rattle.std.specs.Prelude.{◌≡◌, ◌≤◌, ◌<◌, ◌++◌, ℕ, suc, List, [], ◌∷◌, Result, Ok, Err, length}
 use Rattle.og_lex.specs.Faults as lexer
 use Rattle.og_lex.specs.Grammar.{IsLexed}
 use Rattle.og_lex.specs.declared.refusal.LexRefusal.{LexRefusal}
 use Rattle.og_lex.specs.declared.token.Token.{Token}
 use Rattle.og_parse.specs.Script as parser
 use Rattle.og_parse.specs.declared.refusal.ParseRefusal.{ParseRefusal}
-use Rattle.og_parse.specs.declared.refusal.ParseRefusal.TheVariants as parses
 use Rattle.og_syntax.specs.declared.tree.Stmt.{Stmt}
-use Rattle.og_syntax.specs.declared.tree.Stmt.TheVariants as s
 use Rattle.og_words.specs.Grammar.{IsCommand}
 use Rattle.og_words.specs.declared.command.Command.{Command}
 use Rattle.og_words.specs.declared.command.Command.TheVariants as commands
@@ -47,16 +45,6 @@ run_from start n before (stmt ∷ stmts) = after_outcome n before (λ effect. ru
 
 -- ---- the script
 
--- whether a statement is built: all are but LIVE
-abbrev pub is_built : Stmt → Bool
-is_built (s.Live name query) = false
-is_built _ = true
-
--- the number of the first statement that is not built, where the first of all has that number
-abbrev pub first_unbuilt : ℕ → List Stmt → Option ℕ
-first_unbuilt n [] = None
-first_unbuilt n (stmt ∷ stmts) = if is_built stmt then first_unbuilt (suc n) stmts else Some n
-
 -- the most bytes of a source
 abbrev pub max_source : ℕ
 max_source = 16_777_216
@@ -73,7 +61,6 @@ IsTreeFault source fault = (tokens : List Token) × IsLexed source tokens × par
 pub record IsScript (source : List ℕ) (stmts : List Stmt) : Type 0 where
   pub short : length source ≤ max_source
   pub trees : AreTrees source stmts
-  pub built : first_unbuilt 1 stmts ≡ None
 
 -- the source is no script, and this is the line of its fault
 pub data IsScriptFault (source line : List ℕ) : Type 0 where
@@ -83,8 +70,6 @@ pub data IsScriptFault (source line : List ℕ) : Type 0 where
   no_tokens : length source ≤ max_source → (fault : LexRefusal) → lexer.IsFirstFault source fault → line ≡ lex_line fault → IsScriptFault source line
   -- its tokens have no tree
   no_tree : length source ≤ max_source → (fault : ParseRefusal) → IsTreeFault source fault → line ≡ parse_line fault → IsScriptFault source line
-  -- a statement is not built
-  not_built : length source ≤ max_source → (stmts : List Stmt) → AreTrees source stmts → (n : ℕ) → first_unbuilt 1 stmts ≡ Some n → line ≡ parse_line (parses.Syntax n) → IsScriptFault source line
 
 -- ---- the run
 

@@ -1,17 +1,21 @@
 //! Carries out a command, up to its fault's line.
-ghost use Rattle.std.specs.Prelude.{◌≡◌, ◌≤◌, [], ◌∷◌, ℕ, List, Some, None, OnOk};
+ghost use Rattle.std.specs.Prelude.{◌≡◌, ◌≤◌, [], ◌∷◌, ℕ, List, Some, OnOk};
+ghost use Rattle.std.specs.List.{All};
 ghost use Rattle.std.specs.Io.KnownBytes.{Appends};
 ghost use Rattle.og_par.specs.Limits.{max_workers};
 ghost use Rattle.og_io.specs.Folders.{Folder};
+ghost use Rattle.og_db.specs.Runs.{stored};
 ghost use Rattle.og_words.specs.Grammar.{IsCommand};
 ghost use Rattle.og_session.specs.Contents.{AreContents, Contents};
 ghost use Rattle.og_session.specs.Counts.{IsAbsenceCount, IsFaultCount, is_file_fault, is_read_fault, is_write_fault};
 ghost use Rattle.og_session.specs.Ends.{EndsUnreported, EndsWith, IsEndOf, RunEnds};
-ghost use Rattle.og_session.specs.Runs.{IsDefinedRun, IsRun, Run, first_unbuilt, run_from};
+ghost use Rattle.og_session.specs.Lives.{IsLiveStmt};
+ghost use Rattle.og_session.specs.Runs.{IsDefinedRun, IsRun, Run, run_from};
 
 use crate::fault::Stop;
 use crate::law::defined_runs;
 use crate::moves::turned;
+use crate::names::Names;
 use crate::script::{script_of, workers_of};
 use crate::step::step;
 use og_base::Words;
@@ -56,7 +60,7 @@ pub fn carry_out<H: Threads + Sync, S: Source, K: Sink, F: Files, G: Gate + Sync
     run_statements(rt, alloc, stmts, workers, out, files, db, gate)
 }
 
-// Runs the statements, which are built, in order, up to the first with a fault. Each is gone once it is
+// Runs the statements in order, up to the first with a fault. Each is gone once it is
 // carried out.
 fn run_statements<H: Threads + Sync, K: Sink, F: Files, G: Gate + Sync>(
     rt: &H,
@@ -70,10 +74,39 @@ fn run_statements<H: Threads + Sync, K: Sink, F: Files, G: Gate + Sync>(
 ) -> Result<(), Stop>
     requires least { 1 ≤ workers }
     requires most { workers ≤ max_workers }
-    requires built { first_unbuilt 1 stmts ≡ None }
+    requires live { All IsLiveStmt stmts }
     requires empty { db.old ≡ [] }
     ensures ends { (start : Folder) (contents : Contents) → F.folder files.old ≡ Some start → AreContents start contents →
         (text : List ℕ) × Appends (K.written out.old) (K.written out.new) text × RunEnds (run_from contents 1 [] stmts) start db.new (F.folder files.new) text result }
+    ensures late { EndsWith (2 ∷ 3 ∷ 6 ∷ []) result → ⊥ }
+    ensures files { IsFaultCount (is_file_fault result) (F.faults files.old) (F.faults files.new) }
+    ensures writes { IsFaultCount (is_write_fault result) (K.faults out.old) (K.faults out.new) }
+    ensures absences { IsAbsenceCount result (F.absences files.old) (F.absences files.new) }
+{
+    no_statements();
+    let mut names = Names::new(alloc);
+    let end = run_all(rt, alloc, stmts, workers, out, files, &mut names, gate);
+    *db = names.into_stored();
+    end
+}
+
+// The same, over the names that they leave.
+fn run_all<H: Threads + Sync, K: Sink, F: Files, G: Gate + Sync>(
+    rt: &H,
+    alloc: Global,
+    stmts: Items<Stmt>,
+    workers: usize,
+    out: &mut K,
+    files: &mut F,
+    names: &mut Names,
+    gate: &G,
+) -> Result<(), Stop>
+    requires least { 1 ≤ workers }
+    requires most { workers ≤ max_workers }
+    requires live { All IsLiveStmt stmts }
+    requires empty { (names.old.names ≡ []) × (names.old.views ≡ []) }
+    ensures ends { (start : Folder) (contents : Contents) → F.folder files.old ≡ Some start → AreContents start contents →
+        (text : List ℕ) × Appends (K.written out.old) (K.written out.new) text × RunEnds (run_from contents 1 [] stmts) start (stored names.new.names) (F.folder files.new) text result }
     ensures late { EndsWith (2 ∷ 3 ∷ 6 ∷ []) result → ⊥ }
     ensures files { IsFaultCount (is_file_fault result) (F.faults files.old) (F.faults files.new) }
     ensures writes { IsFaultCount (is_write_fault result) (K.faults out.old) (K.faults out.new) }
@@ -90,7 +123,7 @@ fn run_statements<H: Threads + Sync, K: Sink, F: Files, G: Gate + Sync>(
             workers,
             out,
             files,
-            db,
+            names,
             gate,
         )?;
     }

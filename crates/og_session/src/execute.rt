@@ -1,93 +1,88 @@
-//! What a statement does to the database.
-ghost use Rattle.std.specs.Prelude.{◌≡◌, ◌≤◌, ◌++◌, ◌∷◌, [], ℕ, List, true, OnOk, OnErr};
+//! What a statement does to the names.
+ghost use Rattle.std.specs.Prelude.{◌≡◌, ◌≤◌, true, ℕ, List, OnOk, OnErr};
 ghost use Rattle.og_par.specs.Limits.{max_workers};
-ghost use Rattle.og_value.specs.declared.value.Value.{Value};
 ghost use Rattle.og_query.specs.Fits.{IsFit};
 ghost use Rattle.og_query.specs.declared.typed.Typed.{Typed};
 ghost use Rattle.og_query.specs.declared.typed.Typed.TheVariants as t;
-ghost use Rattle.og_db.specs.Database.{Relation};
-ghost use Rattle.og_db.specs.Effects.{Effect, on_names};
-ghost use Rattle.og_db.specs.Held.{Held, known_of};
-ghost use Rattle.og_db.specs.Runs.{IsWorldOf};
+ghost use Rattle.og_db.specs.Effects.{on_names};
+ghost use Rattle.og_db.specs.Held.{known_of};
+ghost use Rattle.og_db.specs.Runs.{stored};
 ghost use Rattle.og_db.specs.Statements.{is_of_names};
+ghost use Rattle.og_session.specs.Following.{IsNoChange};
+ghost use Rattle.og_session.specs.Lives.{IsLiveTyped};
+ghost use Rattle.og_session.specs.Names.{IsDone};
 
 use crate::answer::answer;
-use crate::moves::into_vec;
+use crate::names::Names;
 use og_base::NoMemory;
-use og_db::{Db, found_names, one_statement_more};
+use og_db::found_names;
 use og_par::Gate;
 use og_query::{Query, Typed};
-use og_value::{Name, Row};
-use sqlite_items::Items;
+use og_value::Name;
 use std::alloc::Global;
 use std::thread::Threads;
 
-/// Carries out a statement that acts on names alone and whose names and kinds fit. The rows of an INSERT go into the
-/// table without a copy. Refused only for want of memory, and then nothing has changed.
+/// Carries out a statement that acts on names alone and whose names and kinds fit. Refused only for want of
+/// memory, and then the tables and the kept results are as they were.
 pub fn execute<H: Threads + Sync, G: Gate + Sync>(
     rt: &H,
     alloc: Global,
     stmt: Typed,
     workers: usize,
     gate: &G,
-    db: &mut Db,
+    names: &mut Names,
 ) -> Result<(), NoMemory>
     requires least { 1 ≤ workers }
     requires most { workers ≤ max_workers }
     requires names { is_of_names stmt ≡ true }
-    requires fits { IsFit (known_of db.old) stmt }
-    ensures world { OnOk result ((files : List (Held Relation)) (effects : List Effect) → IsWorldOf db.old files effects → IsWorldOf db.new files (effects ++ on_names stmt ∷ [])) }
-    ensures refused { OnErr result (db.new ≡ db.old) }
+    requires live { IsLiveTyped stmt }
+    requires fits { IsFit (known_of names.old.names) stmt }
+    ensures done { OnOk result (IsDone names.old names.new (on_names stmt)) }
+    ensures refused { OnErr result (stored names.new.names ≡ stored names.old.names) }
 {
     match stmt {
-        Typed::Insert { name, rows } => insert(alloc, &name, rows, db),
+        Typed::Insert { .. } | Typed::Delete { .. } | Typed::Update { .. } => names.change(
+            rt, alloc, stmt, workers, gate,
+        ),
         other => {
-            let done = change(rt, alloc, &other, workers, gate, db);
+            let done = name_or_drop(rt, alloc, &other, workers, gate, names);
             drop(other);
             done
         }
     }
 }
 
-// Moves the rows into the table.
-fn insert(alloc: Global, name: &Name, rows: Items<Row>, db: &mut Db) -> Result<(), NoMemory>
-    requires fits { IsFit (known_of db.old) (t.Insert name.now rows) }
-    ensures world { OnOk result ((files : List (Held Relation)) (effects : List Effect) → IsWorldOf db.old files effects → IsWorldOf db.new files (effects ++ on_names (t.Insert name.now rows) ∷ [])) }
-    ensures refused { OnErr result (db.new ≡ db.old) }
-{
-    one_statement_more();
-    db.insert(name, into_vec(alloc, rows)?)
-}
-
-// Carries out a statement that inserts no rows.
-fn change<H: Threads + Sync, G: Gate + Sync>(
+// Carries out a statement that changes no rows of a table.
+fn name_or_drop<H: Threads + Sync, G: Gate + Sync>(
     rt: &H,
     alloc: Global,
     stmt: &Typed,
     workers: usize,
     gate: &G,
-    db: &mut Db,
+    names: &mut Names,
 ) -> Result<(), NoMemory>
     requires least { 1 ≤ workers }
     requires most { workers ≤ max_workers }
     requires names { is_of_names stmt.now ≡ true }
-    requires other { (name : List ℕ) (rows : List (List Value)) → ¬ (stmt.now ≡ t.Insert name rows) }
-    requires fits { IsFit (known_of db.old) stmt.now }
-    ensures world { OnOk result ((files : List (Held Relation)) (effects : List Effect) → IsWorldOf db.old files effects → IsWorldOf db.new files (effects ++ on_names stmt.now ∷ [])) }
-    ensures refused { OnErr result (db.new ≡ db.old) }
+    requires other { IsNoChange stmt.now }
+    requires live { IsLiveTyped stmt.now }
+    requires fits { IsFit (known_of names.old.names) stmt.now }
+    ensures done { OnOk result (IsDone names.old names.new (on_names stmt.now)) }
+    ensures refused { OnErr result (stored names.new.names ≡ stored names.old.names) }
 {
-    one_statement_more();
     match stmt {
-        Typed::Create { name, schema } => db.create(name.copy()?, schema.copy()?),
-        Typed::Delete { name, cond } => db.delete(name, cond),
-        Typed::Update { name, sets, cond } => db.update(name, sets.as_slice(), cond),
+        Typed::Create { name, schema } => names.create(name.copy()?, schema.copy()?),
         Typed::Drop { name } => {
-            db.drop_name(name);
+            names.drop_name(name);
             Ok(())
         }
-        Typed::Keep { name, query } => keep(rt, alloc, name, query, workers, gate, db),
-        // A PRINT, TABLES or EXPLAIN only writes.
-        _ => Ok(()),
+        Typed::Keep { name, query } => keep(rt, alloc, name, query, workers, gate, names),
+        Typed::Live { name, query } => names.live(rt, alloc, name, query, workers, gate),
+        // A PRINT, TABLES, EXPLAIN or VALID only writes.
+        _ => {
+            names.stay();
+            Ok(())
+        }
     }
 }
 
@@ -99,17 +94,16 @@ fn keep<H: Threads + Sync, G: Gate + Sync>(
     query: &Query,
     workers: usize,
     gate: &G,
-    db: &mut Db,
+    names: &mut Names,
 ) -> Result<(), NoMemory>
     requires least { 1 ≤ workers }
     requires most { workers ≤ max_workers }
-    requires fits { IsFit (known_of db.old) (t.Keep name.now query.now) }
-    ensures world { OnOk result ((files : List (Held Relation)) (effects : List Effect) → IsWorldOf db.old files effects → IsWorldOf db.new files (effects ++ on_names (t.Keep name.now query.now) ∷ [])) }
-    ensures refused { OnErr result (db.new ≡ db.old) }
+    requires fits { IsFit (known_of names.old.names) (t.Keep name.now query.now) }
+    ensures done { OnOk result (IsDone names.old names.new (on_names (t.Keep name.now query.now))) }
+    ensures refused { OnErr result (stored names.new.names ≡ stored names.old.names) }
 {
-    one_statement_more();
     found_names();
-    db.rows_fit();
-    let rel = answer(rt, alloc, query, db, workers, gate)?;
-    db.keep(name.copy()?, query.first.schema.copy()?, rel)
+    names.rows_fit();
+    let rel = answer(rt, alloc, query, &*names, workers, gate)?;
+    names.keep(name.copy()?, query.first.schema.copy()?, rel)
 }

@@ -1,17 +1,24 @@
 //! Statements on files.
-ghost use Rattle.std.specs.Prelude.{[], ℕ, List, Ok};
+ghost use Rattle.std.specs.Prelude.{◌≡◌, ◌≤◌, [], ℕ, List, Ok, OnOk, OnErr};
+ghost use Rattle.std.specs.List.{All};
+ghost use Rattle.og_par.specs.Limits.{max_workers};
 ghost use Rattle.og_io.specs.Folders.{Folder};
-ghost use Rattle.og_query.specs.Fits.{IsFit};
+ghost use Rattle.og_value.specs.declared.schema.Column.{Column};
+ghost use Rattle.og_query.specs.Fits.{IsFit, IsFitRow};
 ghost use Rattle.og_query.specs.declared.typed.Typed.TheVariants as t;
-ghost use Rattle.og_db.specs.Effects.{Effect, saved};
+ghost use Rattle.og_db.specs.Database.{IsTableOf};
+ghost use Rattle.og_db.specs.Effects.{Effect, imported, saved};
 ghost use Rattle.og_db.specs.Held.{known_of};
+ghost use Rattle.og_db.specs.Runs.{stored};
 ghost use Rattle.og_session.specs.Contents.{AreContents, Contents, effect_of, taken};
 ghost use Rattle.og_session.specs.Counts.{IsAbsenceCount, IsFaultCount, is_file_fault};
-ghost use Rattle.og_session.specs.Ends.{IsFileStop, StepEnds};
-ghost use Rattle.og_session.specs.Headline.{IsStateOf};
+ghost use Rattle.og_session.specs.Ends.{IsFileStop, IsHeldState, StepEnds};
+ghost use Rattle.og_session.specs.Names.{IsDone};
 
 use crate::fault::{Fault, Stop};
-use og_db::{Db, known_names, one_file_more};
+use crate::names::Names;
+use og_base::NoMemory;
+use og_db::{known_names, one_file_more};
 use og_file::{
     a_saved_file_is_no_table_file, column_names_are_words, no_fault_of_a_saved_file,
     no_fault_of_a_table_file, one_fault_of_a_saved_file, one_fault_of_a_table_file, one_saved_file,
@@ -19,9 +26,13 @@ use og_file::{
     write_saved,
 };
 use og_io::{Files, Found};
+use og_par::Gate;
+use og_query::Typed;
 use og_rel::Tables;
-use og_value::{Catalog, Name, Text};
+use og_value::{Catalog, Name, Row, Text};
+use sqlite_items::Items;
 use std::alloc::Global;
+use std::thread::Threads;
 
 /// Writes what the name holds to the file.
 pub fn save<F: Files>(
@@ -29,21 +40,21 @@ pub fn save<F: Files>(
     name: &Name,
     file: &Text,
     files: &mut F,
-    db: &Db,
+    names: &Names,
 ) -> Result<(), Stop>
-    requires { IsFit (known_of db.now) (t.Save name.now file.now) }
-    ensures ends { (start : Folder) (n : ℕ) (before : List Effect) → IsStateOf start before db.now (F.folder files.old) →
-        StepEnds start n before (Ok (saved name.now file.now)) db.now (F.folder files.new) [] result }
+    requires { IsFit (known_of names.now.names) (t.Save name.now file.now) }
+    ensures ends { (start : Folder) (n : ℕ) (before : List Effect) → IsHeldState start before names.now (F.folder files.old) →
+        StepEnds start n before (Ok (saved name.now file.now)) names.now (F.folder files.new) [] result }
     ensures stops { IsFileStop result }
     ensures files { IsFaultCount (is_file_fault result) (F.faults files.old) (F.faults files.new) }
     ensures absences { IsAbsenceCount result (F.absences files.old) (F.absences files.new) }
 {
     one_file_more();
-    db.rows_fit();
-    let Some(schema) = db.schema(name) else {
+    names.rows_fit();
+    let Some(schema) = names.schema(name) else {
         unreachable!();
     };
-    let Some(rel) = db.rel(name.bytes()) else {
+    let Some(rel) = names.rel(name.bytes()) else {
         unreachable!();
     };
     let bytes = write_saved(alloc, schema, rel)?;
@@ -58,11 +69,11 @@ pub fn open<F: Files>(
     name: Name,
     file: Text,
     files: &mut F,
-    db: &mut Db,
+    names: &mut Names,
 ) -> Result<(), Stop>
-    requires { IsFit (known_of db.old) (t.OpenFile name file) }
-    ensures ends { (start : Folder) (contents : Contents) → AreContents start contents → (before : List Effect) → IsStateOf start before db.old (F.folder files.old) →
-        StepEnds start number before (taken (effect_of contents before (t.OpenFile name file))) db.new (F.folder files.new) [] result }
+    requires { IsFit (known_of names.old.names) (t.OpenFile name file) }
+    ensures ends { (start : Folder) (contents : Contents) → AreContents start contents → (before : List Effect) → IsHeldState start before names.old (F.folder files.old) →
+        StepEnds start number before (taken (effect_of contents before (t.OpenFile name file))) names.new (F.folder files.new) [] result }
     ensures stops { IsFileStop result }
     ensures files { IsFaultCount (is_file_fault result) (F.faults files.old) (F.faults files.new) }
     ensures absences { IsAbsenceCount result (F.absences files.old) (F.absences files.new) }
@@ -79,23 +90,28 @@ pub fn open<F: Files>(
         }));
     }
     match read_saved(alloc, files.bytes()) {
-        Ok(saved) => Ok(db.keep(name, saved.schema, saved.rel)?),
+        Ok(saved) => Ok(names.keep(name, saved.schema, saved.rel)?),
         Err(refusal) => Err(Stop::of_bytes(number, refusal)),
     }
 }
 
 /// Inserts the rows of the file into the table, at the statement with that number.
-pub fn import<F: Files>(
+pub fn import<H: Threads + Sync, F: Files, G: Gate + Sync>(
+    rt: &H,
     alloc: Global,
     number: usize,
     name: &Name,
     file: Text,
+    workers: usize,
     files: &mut F,
-    db: &mut Db,
+    names: &mut Names,
+    gate: &G,
 ) -> Result<(), Stop>
-    requires { IsFit (known_of db.old) (t.ImportFile name.now file) }
-    ensures ends { (start : Folder) (contents : Contents) → AreContents start contents → (before : List Effect) → IsStateOf start before db.old (F.folder files.old) →
-        StepEnds start number before (taken (effect_of contents before (t.ImportFile name.now file))) db.new (F.folder files.new) [] result }
+    requires least { 1 ≤ workers }
+    requires most { workers ≤ max_workers }
+    requires fits { IsFit (known_of names.old.names) (t.ImportFile name.now file) }
+    ensures ends { (start : Folder) (contents : Contents) → AreContents start contents → (before : List Effect) → IsHeldState start before names.old (F.folder files.old) →
+        StepEnds start number before (taken (effect_of contents before (t.ImportFile name.now file))) names.new (F.folder files.new) [] result }
     ensures stops { IsFileStop result }
     ensures files { IsFaultCount (is_file_fault result) (F.faults files.old) (F.faults files.new) }
     ensures absences { IsAbsenceCount result (F.absences files.old) (F.absences files.new) }
@@ -113,12 +129,35 @@ pub fn import<F: Files>(
             file,
         }));
     }
-    let Some(schema) = db.schema(name) else {
+    let Some(schema) = names.schema(name) else {
         unreachable!();
     };
     column_names_are_words(schema);
     match read_table(alloc, schema, files.bytes()) {
-        Ok(rows) => Ok(db.insert(name, rows)?),
+        Ok(rows) => Ok(insert(rt, alloc, name, rows, workers, names, gate)?),
         Err(refusal) => Err(Stop::of_bytes(number, refusal)),
     }
+}
+
+// Inserts the rows into the table, as an INSERT does.
+fn insert<H: Threads + Sync, G: Gate + Sync>(
+    rt: &H,
+    alloc: Global,
+    name: &Name,
+    rows: Vec<Row>,
+    workers: usize,
+    names: &mut Names,
+    gate: &G,
+) -> Result<(), NoMemory>
+    requires least { 1 ≤ workers }
+    requires most { workers ≤ max_workers }
+    requires table { (columns : List Column) × IsTableOf columns names.old.names name.now × All (IsFitRow columns) rows.items }
+    ensures done { OnOk result (IsDone names.old names.new (imported name.now rows.items)) }
+    ensures refused { OnErr result (stored names.new.names ≡ stored names.old.names) }
+{
+    let stmt = Typed::Insert {
+        name: name.copy()?,
+        rows: Items::from_vec(rows),
+    };
+    names.change(rt, alloc, stmt, workers, gate)
 }

@@ -15,11 +15,12 @@ ghost use Rattle.og_session.specs.Output.{piece_of};
 ghost use Rattle.og_session.specs.Puts.{IsPut};
 
 use crate::answer::answer;
+use crate::names::Names;
 use crate::puts::{put, put_layout, put_lines};
 use crate::records::names_text;
 use crate::valid::put_valid;
 use og_base::{NoMemory, RefDay};
-use og_db::{Db, found_names};
+use og_db::found_names;
 use og_io::{PutRefusal, Sink};
 use og_par::Gate;
 use og_plan::{fitting_queries, plan_lines, plan_of};
@@ -37,23 +38,25 @@ pub fn put_piece<H: Threads + Sync, K: Sink, G: Gate + Sync>(
     stmt: &Typed,
     workers: usize,
     gate: &G,
-    db: &Db,
+    names: &Names,
     out: &mut K,
 ) -> Result<(), PutRefusal>
     requires least { 1 ≤ workers }
     requires most { workers ≤ max_workers }
-    requires fits { IsFit (known_of db.now) stmt.now }
-    ensures put { (files : List (Held Relation)) (before : List Effect) → IsWorldOf db.now files before → IsPut (K.written out.old) (K.written out.new) (piece_of before (on_names stmt.now)) result }
+    requires fits { IsFit (known_of names.now.names) stmt.now }
+    ensures put { (files : List (Held Relation)) (before : List Effect) → IsWorldOf names.now.names files before → IsPut (K.written out.old) (K.written out.new) (piece_of before (on_names stmt.now)) result }
     ensures counted { IsFaultCount (is_unput result) (K.faults out.old) (K.faults out.new) }
 {
     match stmt {
-        Typed::PrintName { name, day } => put_name(rt, alloc, name, *day, workers, gate, db, out),
-        Typed::PrintQuery { query, day } => put_query(
-            rt, alloc, query, *day, workers, gate, db, out,
+        Typed::PrintName { name, day } => put_name(
+            rt, alloc, name, *day, workers, gate, names, out,
         ),
-        Typed::Tables => put(tables_piece(alloc, db)?.as_slice(), out),
+        Typed::PrintQuery { query, day } => put_query(
+            rt, alloc, query, *day, workers, gate, names, out,
+        ),
+        Typed::Tables => put(tables_piece(alloc, names)?.as_slice(), out),
         Typed::Explain { query } => put_plan(alloc, query, out),
-        Typed::Valid { name, day } => put_valid(alloc, name, *day, db, out),
+        Typed::Valid { name, day } => put_valid(alloc, name, *day, names, out),
         _ => Ok(()),
     }
 }
@@ -66,22 +69,22 @@ fn put_name<H: Threads + Sync, K: Sink, G: Gate + Sync>(
     day: RefDay,
     workers: usize,
     gate: &G,
-    db: &Db,
+    names: &Names,
     out: &mut K,
 ) -> Result<(), PutRefusal>
     requires least { 1 ≤ workers }
     requires most { workers ≤ max_workers }
-    ensures put { (files : List (Held Relation)) (before : List Effect) → IsWorldOf db.now files before → IsPut (K.written out.old) (K.written out.new) (piece_of before (on_names (t.PrintName name.now day))) result }
+    ensures put { (files : List (Held Relation)) (before : List Effect) → IsWorldOf names.now.names files before → IsPut (K.written out.old) (K.written out.new) (piece_of before (on_names (t.PrintName name.now day))) result }
     ensures counted { IsFaultCount (is_unput result) (K.faults out.old) (K.faults out.new) }
 {
     order_of_rows();
     found_names();
     // For its clause: the day is a reference day.
     day.number();
-    let Some(schema) = db.schema(name) else {
+    let Some(schema) = names.schema(name) else {
         return Ok(());
     };
-    let Some(rel) = db.rel(name.bytes()) else {
+    let Some(rel) = names.rel(name.bytes()) else {
         return Ok(());
     };
     let rows = rel.at_workers(rt, workers, day, gate)?;
@@ -96,21 +99,21 @@ fn put_query<H: Threads + Sync, K: Sink, G: Gate + Sync>(
     day: RefDay,
     workers: usize,
     gate: &G,
-    db: &Db,
+    names: &Names,
     out: &mut K,
 ) -> Result<(), PutRefusal>
     requires least { 1 ≤ workers }
     requires most { workers ≤ max_workers }
-    requires fits { IsFitQuery (schemas_of (known_of db.now)) query.now }
-    ensures put { (files : List (Held Relation)) (before : List Effect) → IsWorldOf db.now files before → IsPut (K.written out.old) (K.written out.new) (piece_of before (on_names (t.PrintQuery query.now day))) result }
+    requires fits { IsFitQuery (schemas_of (known_of names.now.names)) query.now }
+    ensures put { (files : List (Held Relation)) (before : List Effect) → IsWorldOf names.now.names files before → IsPut (K.written out.old) (K.written out.new) (piece_of before (on_names (t.PrintQuery query.now day))) result }
     ensures counted { IsFaultCount (is_unput result) (K.faults out.old) (K.faults out.new) }
 {
     order_of_rows();
     found_names();
-    db.rows_fit();
+    names.rows_fit();
     // For its clause: the day is a reference day.
     day.number();
-    let rel = answer(rt, alloc, query, db, workers, gate)?;
+    let rel = answer(rt, alloc, query, names, workers, gate)?;
     let rows = rel.at_workers(rt, workers, day, gate)?;
     put_layout(
         rt,
@@ -124,10 +127,10 @@ fn put_query<H: Threads + Sync, K: Sink, G: Gate + Sync>(
 }
 
 // The names.
-fn tables_piece(alloc: Global, db: &Db) -> Result<Vec<u8>, NoMemory>
-    ensures { IfOk result (λ text. (files : List (Held Relation)) (before : List Effect) → IsWorldOf db.now files before → text.items ≡ piece_of before (on_names t.Tables)) }
+fn tables_piece(alloc: Global, names: &Names) -> Result<Vec<u8>, NoMemory>
+    ensures { IfOk result (λ text. (files : List (Held Relation)) (before : List Effect) → IsWorldOf names.now.names files before → text.items ≡ piece_of before (on_names t.Tables)) }
 {
-    names_text(alloc, db)
+    names_text(alloc, names.held())
 }
 
 // Puts the text of the plan of a query, line by line: the text of a deep plan grows with the square of its

@@ -1,15 +1,16 @@
 //! The script of a command.
-ghost use Rattle.std.specs.Prelude.{◌≡◌, ◌≤◌, [], ℕ, List, false, Some, None, IfOk, IfErr, length};
+ghost use Rattle.std.specs.Prelude.{◌≡◌, ◌≤◌, [], ℕ, List, false, Some, IfOk, IfErr, length};
+ghost use Rattle.std.specs.List.{All};
 ghost use Rattle.og_par.specs.Limits.{max_workers};
 ghost use Rattle.og_words.specs.Grammar.{IsCommand};
 ghost use Rattle.og_session.specs.Counts.{IsFaultCount, is_read_fault};
 ghost use Rattle.og_session.specs.Ends.{IsRunCommand, IsScriptStop, IsSourceOf, IsStopBefore};
+ghost use Rattle.og_session.specs.Lives.{IsLiveStmt};
 ghost use Rattle.og_session.specs.Runs.{IsScript, IsScriptOf, max_source};
-ghost use Rattle.og_session.specs.Runs as spec;
 ghost use Rattle.og_words.specs.declared.command.Command.TheVariants as commands;
 
 use crate::commands::{at_statements, load_statements};
-use crate::fault::{Fault, Stop};
+use crate::fault::Stop;
 use crate::source::read_source;
 use og_io::Source;
 use og_lex::lex;
@@ -40,7 +41,7 @@ pub fn script_of<S: Source>(
 ) -> Result<Items<Stmt>, Stop>
     requires { (words : List (List ℕ)) × IsCommand words command }
     ensures script { (source : List ℕ) → IsSourceOf command (S.left src.old) source → IfOk result (IsScriptOf command source) }
-    ensures built { IfOk result (λ stmts. spec.first_unbuilt 1 stmts ≡ None) }
+    ensures live { IfOk result (All IsLiveStmt) }
     ensures stopped { (source : List ℕ) → IsSourceOf command (S.left src.old) source → IfErr result (IsScriptStop source) }
     ensures stops { IfErr result (IsStopBefore command) }
     ensures drained { (source : List ℕ) → IsRunCommand command → S.left src.old ≡ Some source → IfOk result (λ _. S.left src.new ≡ Some []) }
@@ -57,7 +58,7 @@ pub fn script_of<S: Source>(
 // The statements of the source, which is read to its end.
 fn read_script<S: Source>(alloc: Global, src: &mut S) -> Result<Items<Stmt>, Stop>
     ensures script { (source : List ℕ) → S.left src.old ≡ Some source → IfOk result (IsScript source) }
-    ensures built { IfOk result (λ stmts. spec.first_unbuilt 1 stmts ≡ None) }
+    ensures live { IfOk result (All IsLiveStmt) }
     ensures stopped { (source : List ℕ) → S.left src.old ≡ Some source → IfErr result (IsScriptStop source) }
     ensures stops { (workers : ℕ) → IfErr result (IsStopBefore (commands.Run workers)) }
     ensures drained { (source : List ℕ) → S.left src.old ≡ Some source → IfOk result (λ _. S.left src.new ≡ Some []) }
@@ -71,34 +72,12 @@ fn read_script<S: Source>(alloc: Global, src: &mut S) -> Result<Items<Stmt>, Sto
 fn tree_of(alloc: Global, bytes: &[u8]) -> Result<Items<Stmt>, Stop>
     requires { length bytes.now ≤ max_source }
     ensures script { IfOk result (IsScript bytes.now) }
+    ensures live { IfOk result (All IsLiveStmt) }
     ensures stopped { IfErr result (IsScriptStop bytes.now) }
     ensures stops { (workers : ℕ) → IfErr result (IsStopBefore (commands.Run workers)) }
     ensures read { is_read_fault result ≡ false }
 {
     let tokens = lex(alloc, bytes)?;
     let script = parse(alloc, bytes, tokens.as_slice())?;
-    if let Some(statement) = first_unbuilt(script.stmts.as_slice()) {
-        drop(script);
-        return Err(Stop::Fault(Fault::Syntax { statement }));
-    }
     Ok(script.stmts)
-}
-
-// The number of the first statement, counted from 1, that does not run.
-fn first_unbuilt(stmts: &[Stmt]) -> Option<usize>
-    ensures { result ≡ spec.first_unbuilt 1 stmts.now }
-{
-    'stmts: for place in 0..stmts.len() {
-        if !is_built(&stmts[place]) {
-            return Some(place + 1);
-        }
-    }
-    None
-}
-
-// Whether the statement runs: all do but LIVE.
-fn is_built(stmt: &Stmt) -> bool
-    ensures { result ≡ spec.is_built stmt.now }
-{
-    !matches!(stmt, Stmt::Live { .. })
 }

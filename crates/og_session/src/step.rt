@@ -10,16 +10,16 @@ ghost use Rattle.og_db.specs.Held.{known_of};
 ghost use Rattle.og_db.specs.Statements.{is_of_names};
 ghost use Rattle.og_session.specs.Contents.{AreContents, Contents, effect_of, outcome, taken};
 ghost use Rattle.og_session.specs.Counts.{IsAbsenceCount, IsFaultCount, is_file_fault, is_write_fault};
-ghost use Rattle.og_session.specs.Ends.{IsPutStop, IsStepStop, StepEnds, is_built_typed};
-ghost use Rattle.og_session.specs.Headline.{IsStateOf};
-ghost use Rattle.og_session.specs.Runs.{is_built};
+ghost use Rattle.og_session.specs.Ends.{IsHeldState, IsPutStop, IsStepStop, StepEnds};
+ghost use Rattle.og_session.specs.Lives.{IsLiveStmt, IsLiveTyped};
 
 use crate::execute::execute;
 use crate::fault::Stop;
 use crate::files::{import, open, save};
+use crate::names::Names;
 use crate::pieces::put_piece;
 use og_check::{check_owned, checked_fits};
-use og_db::{Db, known_names};
+use og_db::known_names;
 use og_io::{Files, Sink};
 use og_par::Gate;
 use og_query::Typed;
@@ -27,9 +27,9 @@ use og_syntax::Stmt;
 use std::alloc::Global;
 use std::thread::Threads;
 
-/// Takes the last of the statements that are left, in turned order, which has that number, counted from 1,
-/// and is built; checks it, writes what it prints, and carries it out. Where it is stopped the database and
-/// the files are as they were, but for a file that was to be written where the files failed, and a front of
+/// Takes the last of the statements that are left, in turned order, which has that number, counted from 1;
+/// checks it, writes what it prints, and carries it out. Where it is stopped the tables, the kept
+/// results and the files are as they were, but for a file that was to be written where the files failed, and a front of
 /// what it prints was written.
 pub fn step<H: Threads + Sync, K: Sink, F: Files, G: Gate + Sync>(
     rt: &H,
@@ -39,15 +39,15 @@ pub fn step<H: Threads + Sync, K: Sink, F: Files, G: Gate + Sync>(
     workers: usize,
     out: &mut K,
     files: &mut F,
-    db: &mut Db,
+    names: &mut Names,
     gate: &G,
 ) -> Result<(), Stop>
     requires least { 1 ≤ workers }
     requires most { workers ≤ max_workers }
-    requires next { (stmt : Stmt) × (rest : List Stmt) × (reverse left.old.items ≡ stmt ∷ rest) × (is_built stmt ≡ true) }
+    requires next { (stmt : Stmt) × (rest : List Stmt) × (reverse left.old.items ≡ stmt ∷ rest) × IsLiveStmt stmt }
     ensures ends { (stmt : Stmt) (rest : List Stmt) → reverse left.old.items ≡ stmt ∷ rest → (start : Folder) (contents : Contents) → AreContents start contents →
-        (before : List Effect) → IsStateOf start before db.old (F.folder files.old) →
-        (text : List ℕ) × Appends (K.written out.old) (K.written out.new) text × StepEnds start number before (outcome contents before stmt) db.new (F.folder files.new) text result }
+        (before : List Effect) → IsHeldState start before names.old (F.folder files.old) →
+        (text : List ℕ) × Appends (K.written out.old) (K.written out.new) text × StepEnds start number before (outcome contents before stmt) names.new (F.folder files.new) text result }
     ensures left { (stmt : Stmt) (rest : List Stmt) → reverse left.old.items ≡ stmt ∷ rest → reverse left.new.items ≡ rest }
     ensures late { IsStepStop result }
     ensures files { IsFaultCount (is_file_fault result) (F.faults files.old) (F.faults files.new) }
@@ -57,7 +57,7 @@ pub fn step<H: Threads + Sync, K: Sink, F: Files, G: Gate + Sync>(
     let Some(stmt) = left.pop() else {
         unreachable!();
     };
-    carried(rt, alloc, number, stmt, workers, out, files, db, gate)
+    carried(rt, alloc, number, stmt, workers, out, files, names, gate)
 }
 
 // The same of a statement that was taken.
@@ -69,14 +69,14 @@ fn carried<H: Threads + Sync, K: Sink, F: Files, G: Gate + Sync>(
     workers: usize,
     out: &mut K,
     files: &mut F,
-    db: &mut Db,
+    names: &mut Names,
     gate: &G,
 ) -> Result<(), Stop>
     requires least { 1 ≤ workers }
     requires most { workers ≤ max_workers }
-    requires built { is_built stmt ≡ true }
-    ensures ends { (start : Folder) (contents : Contents) → AreContents start contents → (before : List Effect) → IsStateOf start before db.old (F.folder files.old) →
-        (text : List ℕ) × Appends (K.written out.old) (K.written out.new) text × StepEnds start number before (outcome contents before stmt) db.new (F.folder files.new) text result }
+    requires live { IsLiveStmt stmt }
+    ensures ends { (start : Folder) (contents : Contents) → AreContents start contents → (before : List Effect) → IsHeldState start before names.old (F.folder files.old) →
+        (text : List ℕ) × Appends (K.written out.old) (K.written out.new) text × StepEnds start number before (outcome contents before stmt) names.new (F.folder files.new) text result }
     ensures late { IsStepStop result }
     ensures files { IsFaultCount (is_file_fault result) (F.faults files.old) (F.faults files.new) }
     ensures writes { IsFaultCount (is_write_fault result) (K.faults out.old) (K.faults out.new) }
@@ -84,8 +84,8 @@ fn carried<H: Threads + Sync, K: Sink, F: Files, G: Gate + Sync>(
 {
     known_names();
     checked_fits();
-    match check_owned(alloc, stmt, db) {
-        Ok(typed) => done(rt, alloc, number, typed, workers, out, files, db, gate),
+    match check_owned(alloc, stmt, &*names) {
+        Ok(typed) => done(rt, alloc, number, typed, workers, out, files, names, gate),
         Err(refusal) => Err(Stop::of_check(number, refusal)),
     }
 }
@@ -99,25 +99,27 @@ fn done<H: Threads + Sync, K: Sink, F: Files, G: Gate + Sync>(
     workers: usize,
     out: &mut K,
     files: &mut F,
-    db: &mut Db,
+    names: &mut Names,
     gate: &G,
 ) -> Result<(), Stop>
     requires least { 1 ≤ workers }
     requires most { workers ≤ max_workers }
-    requires built { is_built_typed typed ≡ true }
-    requires fits { IsFit (known_of db.old) typed }
-    ensures ends { (start : Folder) (contents : Contents) → AreContents start contents → (before : List Effect) → IsStateOf start before db.old (F.folder files.old) →
-        (text : List ℕ) × Appends (K.written out.old) (K.written out.new) text × StepEnds start number before (taken (effect_of contents before typed)) db.new (F.folder files.new) text result }
+    requires live { IsLiveTyped typed }
+    requires fits { IsFit (known_of names.old.names) typed }
+    ensures ends { (start : Folder) (contents : Contents) → AreContents start contents → (before : List Effect) → IsHeldState start before names.old (F.folder files.old) →
+        (text : List ℕ) × Appends (K.written out.old) (K.written out.new) text × StepEnds start number before (taken (effect_of contents before typed)) names.new (F.folder files.new) text result }
     ensures late { IsStepStop result }
     ensures files { IsFaultCount (is_file_fault result) (F.faults files.old) (F.faults files.new) }
     ensures writes { IsFaultCount (is_write_fault result) (K.faults out.old) (K.faults out.new) }
     ensures absences { IsAbsenceCount result (F.absences files.old) (F.absences files.new) }
 {
     match typed {
-        Typed::Save { name, file } => save(alloc, &name, &file, files, db),
-        Typed::OpenFile { name, file } => open(alloc, number, name, file, files, db),
-        Typed::ImportFile { name, file } => import(alloc, number, &name, file, files, db),
-        other => on_names(rt, alloc, other, workers, out, db, gate),
+        Typed::Save { name, file } => save(alloc, &name, &file, files, names),
+        Typed::OpenFile { name, file } => open(alloc, number, name, file, files, names),
+        Typed::ImportFile { name, file } => import(
+            rt, alloc, number, &name, file, workers, files, names, gate,
+        ),
+        other => on_names(rt, alloc, other, workers, out, names, gate),
     }
 }
 
@@ -128,22 +130,23 @@ fn on_names<H: Threads + Sync, K: Sink, G: Gate + Sync>(
     typed: Typed,
     workers: usize,
     out: &mut K,
-    db: &mut Db,
+    names: &mut Names,
     gate: &G,
 ) -> Result<(), Stop>
     requires least { 1 ≤ workers }
     requires most { workers ≤ max_workers }
     requires names { is_of_names typed ≡ true }
-    requires fits { IsFit (known_of db.old) typed }
-    ensures ends { (start : Folder) (n : ℕ) (before : List Effect) (folder : Option Folder) → IsStateOf start before db.old folder →
-        (text : List ℕ) × Appends (K.written out.old) (K.written out.new) text × StepEnds start n before (Ok (on_names typed)) db.new folder text result }
+    requires live { IsLiveTyped typed }
+    requires fits { IsFit (known_of names.old.names) typed }
+    ensures ends { (start : Folder) (n : ℕ) (before : List Effect) (folder : Option Folder) → IsHeldState start before names.old folder →
+        (text : List ℕ) × Appends (K.written out.old) (K.written out.new) text × StepEnds start n before (Ok (on_names typed)) names.new folder text result }
     ensures stops { IsPutStop result }
     ensures writes { IsFaultCount (is_write_fault result) (K.faults out.old) (K.faults out.new) }
 {
-    if let Err(refusal) = put_piece(rt, alloc, &typed, workers, gate, db, out) {
+    if let Err(refusal) = put_piece(rt, alloc, &typed, workers, gate, names, out) {
         drop(typed);
         return Err(Stop::from(refusal));
     }
-    execute(rt, alloc, typed, workers, gate, db)?;
+    execute(rt, alloc, typed, workers, gate, names)?;
     Ok(())
 }

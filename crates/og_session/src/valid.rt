@@ -13,10 +13,11 @@ ghost use Rattle.og_session.specs.Puts.{IsPut};
 
 use crate::calendar::of_calendar;
 use crate::freeze::RowFreezer;
+use crate::names::Names;
 use crate::puts::put;
 use crate::records::range_text;
 use og_base::{DayRange, NoMemory, RefDay};
-use og_db::{Db, fitting_rows, found_names};
+use og_db::{fitting_rows, found_names};
 use og_io::{PutRefusal, Sink};
 use og_rel::Tables;
 use og_value::{Name, one_text_a_cell, order_of_rows};
@@ -28,31 +29,31 @@ pub fn put_valid<K: Sink>(
     alloc: Global,
     name: &Name,
     day: RefDay,
-    db: &Db,
+    names: &Names,
     out: &mut K,
 ) -> Result<(), PutRefusal>
-    requires { IsNamed (known_of db.now) name.now }
-    ensures put { (files : List (Held Relation)) (before : List Effect) → IsWorldOf db.now files before → IsPut (K.written out.old) (K.written out.new) (piece_of before (on_names (t.Valid name.now day))) result }
+    requires { IsNamed (known_of names.now.names) name.now }
+    ensures put { (files : List (Held Relation)) (before : List Effect) → IsWorldOf names.now.names files before → IsPut (K.written out.old) (K.written out.new) (piece_of before (on_names (t.Valid name.now day))) result }
     ensures counted { IsFaultCount (is_unput result) (K.faults out.old) (K.faults out.new) }
 {
-    let range = range_of(alloc, name, day, db)?;
+    let range = range_of(alloc, name, day, names)?;
     put(range_text(alloc, range)?.as_slice(), out)
 }
 
 // The range. The lists of the name's rows are the same on two days where their layouts are, since a row of
 // the columns' kinds is told by the texts of its values.
-fn range_of(alloc: Global, name: &Name, day: RefDay, db: &Db) -> Result<DayRange, NoMemory>
-    requires { IsNamed (known_of db.now) name.now }
-    ensures { IfOk result (λ range. (files : List (Held Relation)) (before : List Effect) → IsWorldOf db.now files before → range ≡ valid_range before name.now day) }
+fn range_of(alloc: Global, name: &Name, day: RefDay, names: &Names) -> Result<DayRange, NoMemory>
+    requires { IsNamed (known_of names.now.names) name.now }
+    ensures { IfOk result (λ range. (files : List (Held Relation)) (before : List Effect) → IsWorldOf names.now.names files before → range ≡ valid_range before name.now day) }
 {
     order_of_rows();
     found_names();
     fitting_rows();
     one_text_a_cell();
-    db.rows_fit();
+    names.rows_fit();
     // For its clause: the day is a reference day.
     day.number();
-    let Some(rel) = db.rel(name.bytes()) else {
+    let Some(rel) = names.rel(name.bytes()) else {
         unreachable!();
     };
     of_calendar(rel);

@@ -9,7 +9,7 @@ use Rattle.og_plan.specs.Meaning.{plan_rows}
 use Rattle.og_plan.specs.Premises.{query_tables}
 use Rattle.og_exec.specs.Tables.{IsThere, AreThere, rows_at, sizes_of}
 use Rattle.og_db.specs.Fits.{IsFitFixed}
-use Rattle.og_session.proofs.AnswerLemmas.{answer_fits, tables_fit}
+use Rattle.og_view.proofs.AnswerLemmas.{answer_fits, tables_fit}
 use Rattle.og_session.proofs.answer.answer.Goals as goal
 
 pub plan_of-requires-clause-range : goal.plan_of-requires-clause-range
@@ -29,7 +29,7 @@ returns-clause-law g c d day =
     let named = g.T.Tables.named c.args.tables.now in
     let plan = c.in_ok-plan.plan in
     subst (λ cmp. (d : ℤ) → IsRefDay d → relation_at cmp row_at c.in_ok-rel.rel d ≡ plan_rows d (rows_at named d) plan) (λ i x y. c.order_of_rows.ensures.order x y i) c.in_ok-rel.ensures.law d day
-    ∙ c.in_ok-plan.ensures.meaning d (rows_at named d) (tables_fit known named c.requires.held c.fitting_rows.ensures.on_a_day d c.args.query.now c.requires.fits)
+    ∙ c.in_ok-plan.ensures.meaning d (rows_at named d) (tables_fit (schemas_of known) named c.requires.held c.fitting_rows.ensures.on_a_day d c.args.query.now c.requires.fits)
 
 pub returns-clause-kinds : goal.returns-clause-kinds
 returns-clause-kinds g c =
@@ -38,7 +38,7 @@ returns-clause-kinds g c =
     let query = c.args.query.now in
     c.fitting_rows.ensures.on_all_days query.first.schema c.in_ok-rel.rel c.some_days.ensures
     (λ d day. subst (All (IsFitFixed query.first.schema)) (sym (returns-clause-law g c d day))
-    (answer_fits d (rows_at named d) (schemas_of known) query c.requires.fits (tables_fit known named c.requires.held c.fitting_rows.ensures.on_a_day d query c.requires.fits)))
+    (answer_fits d (rows_at named d) (schemas_of known) query c.requires.fits (tables_fit (schemas_of known) named c.requires.held c.fitting_rows.ensures.on_a_day d query c.requires.fits)))
 
 pub returns-clause-size : goal.returns-clause-size
 returns-clause-size g c =

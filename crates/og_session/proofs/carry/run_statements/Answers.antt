@@ -1,76 +1,12 @@
-use Rattle.std.proofs.Common.{◌≡◌, ◌+◌, ◌≤◌, ◌<◌, suc, rules, [], drop, length, ap, sym, subst, ◌∙◌, None, arith}
-use Rattle.std.proofs.lemmas.List.{length-reverse}
-use Rattle.std.proofs.lemmas.Result.{err_from_is_err_and}
-use Rattle.og_session.specs.Runs.{first_unbuilt, run_from}
-use Rattle.og_session.proofs.CountLemmas.{absence_after, fault_after, not_early}
-use Rattle.og_session.proofs.RunLemmas.{not_begun, turn-last, turn-more, turn-stopped}
-use Rattle.og_session.proofs.StateLemmas.{state_at_start}
-use Rattle.og_session.proofs.StepLemmas.{built_first}
-use Rattle.og_session.proofs.TurnLemmas.{drop-next, left_first}
+use Rattle.std.proofs.Common.{[], subst, sym}
+use Rattle.og_session.specs.Ends.{RunEnds}
+use Rattle.og_session.specs.Runs.{run_from}
 use Rattle.og_session.proofs.carry.run_statements.Goals as goal
-
-pub returns-in_err-left-clause-ends : goal.returns-in_err-left-clause-ends
-returns-in_err-left-clause-ends g c start contents told holds =
-    let p = err_from_is_err_and c.from_residual.result c.from_residual.ensures.1 in
-    rw (p.1, p.2) (not_begun start contents (run_from contents 1 [] c.args.stmts) c.args.db.now _ (g.K.Sink.written c.args.out.now) (state_at_start start c.args.db.now _ c.no_statements.ensures c.requires.empty told))
-
-pub returns-in_err-step-clause-ends : goal.returns-in_err-step-clause-ends
-returns-in_err-step-clause-ends g c start contents told holds =
-    let p = err_from_is_err_and c.from_residual-in_err-step.result c.from_residual-in_err-step.ensures.1 in
-    let stmts = c.args.stmts in
-    let at = c.stmts.invariant.at start contents told holds in
-    let next = left_first stmts c.stmts.place (subst (λ n. c.stmts.place < n) (ap length c.in_ok-left.ensures ∙ length-reverse c.args.stmts) (search rules)) in
-    rw (p.1, p.2) (turn-stopped start contents stmts next.1 c.stmts.place (c.stmts.place + 1) next.0 _ _ _ _ _ _ _ c.in_err-step.field-0.0 at next.2 (omega arith)
-    (c.in_err-step.ensures.ends next.0 next.1 (c.stmts.invariant.left ∙ next.2) start contents holds at.before at.state))
-
-pub returns-in_err-step-clause-late : goal.returns-in_err-step-clause-late
-returns-in_err-step-clause-late g c early =
-    let p = err_from_is_err_and c.from_residual-in_err-step.result c.from_residual-in_err-step.ensures.1 in
-    not_early c.from_residual-in_err-step.result (rw (p.1, p.2) c.in_err-step.ensures.late) early
-
-pub returns-in_err-step-clause-files : goal.returns-in_err-step-clause-files
-returns-in_err-step-clause-files g c =
-    let p = err_from_is_err_and c.from_residual-in_err-step.result c.from_residual-in_err-step.ensures.1 in
-    rw (p.1, p.2) (fault_after _ _ _ _ c.stmts.invariant.files c.in_err-step.ensures.files)
-
-pub returns-in_err-step-clause-writes : goal.returns-in_err-step-clause-writes
-returns-in_err-step-clause-writes g c =
-    let p = err_from_is_err_and c.from_residual-in_err-step.result c.from_residual-in_err-step.ensures.1 in
-    rw (p.1, p.2) (fault_after _ _ _ _ c.stmts.invariant.writes c.in_err-step.ensures.writes)
-
-pub returns-in_err-step-clause-absences : goal.returns-in_err-step-clause-absences
-returns-in_err-step-clause-absences g c =
-    let p = err_from_is_err_and c.from_residual-in_err-step.result c.from_residual-in_err-step.ensures.1 in
-    absence_after c.from_residual-in_err-step.result _ _ _ c.stmts.invariant.absences (rw (p.1, p.2) c.in_err-step.ensures.absences)
-
-pub step-requires-clause-next : goal.step-requires-clause-next
-step-requires-clause-next g c κs within =
-    let place = c.stmts.place in
-    let next = left_first c.args.stmts place (subst (λ n. c.stmts.place < n) (ap length c.in_ok-left.ensures ∙ length-reverse c.args.stmts) (search rules)) in
-    (next.0, next.1, c.stmts.invariant.left ∙ next.2, (built_first (suc place) next.0 next.1 (subst (λ xs. first_unbuilt (suc place) xs ≡ None) next.2 c.stmts.invariant.built)).0)
-
-pub stmts-preserved : goal.stmts-preserved
-stmts-preserved g c =
-    let stmts = c.args.stmts in
-    let place = c.stmts.place in
-    let next = left_first stmts place (subst (λ n. c.stmts.place < n) (ap length c.in_ok-left.ensures ∙ length-reverse c.args.stmts) (search rules)) in
-    let left = c.stmts.invariant.left ∙ next.2 in
-    let more = (built_first (suc place) next.0 next.1 (subst (λ xs. first_unbuilt (suc place) xs ≡ None) next.2 c.stmts.invariant.built)).1 in
-    let one : place + 1 ≡ suc place = omega arith in
-    let after : drop (place + 1) stmts ≡ next.1 = ap (λ n. drop n stmts) one ∙ drop-next place stmts next.1 next.0 next.2 in
-    record {
-      at = λ start contents told holds.
-          let at = c.stmts.invariant.at start contents told holds in
-          turn-more start contents stmts next.1 place (place + 1) (place + 1) next.0 _ _ _ _ _ _ _ at next.2 after (omega arith) (omega arith)
-          (c.in_ok-step.ensures.ends next.0 next.1 left start contents holds at.before at.state);
-      left = c.in_ok-step.ensures.left next.0 next.1 left ∙ sym after;
-      built = subst (λ xs. first_unbuilt (suc (place + 1)) xs ≡ None) (sym after) (subst (λ n. first_unbuilt (suc n) next.1 ≡ None) (sym one) more);
-      files = c.in_ok-step.ensures.files ∙ c.stmts.invariant.files;
-      writes = c.in_ok-step.ensures.writes ∙ c.stmts.invariant.writes;
-      absences = omega (arith, c.in_ok-step.ensures.absences, c.stmts.invariant.absences);
-    }
 
 pub returns-clause-ends : goal.returns-clause-ends
 returns-clause-ends g c start contents told holds =
-    turn-last start contents c.args.stmts c.stmts.place c.stmts.db _ _ _ (c.stmts.invariant.at start contents told holds)
-    (subst (λ n. n ≤ c.stmts.place) (ap length c.in_ok-left.ensures ∙ length-reverse c.args.stmts) (search rules))
+    let ends = c.run_all-end.ensures.ends start contents told holds in (
+      ends.0,
+      ends.1,
+      subst (λ db. RunEnds (run_from contents 1 [] c.args.stmts) start db (g.F.Files.folder c.run_all-end.new.files) ends.0 c.run_all-end.result) (sym c.into_stored.ensures) ends.2,
+    )

@@ -19,21 +19,21 @@ pub returns-in_default-clause-put : goal.returns-in_default-clause-put
 returns-in_default-clause-put g c files before world =
     let on = λ (rel : Relation). relation_at row_order row_at rel c.args.day in
     let is_day = subst IsRefDay c.number.ensures.value c.number.ensures.range in
-    let none : option_map (λ k. k.1) (known_of c.args.db.now c.args.name.now) ≡ None = sym c.schema.ensures ∙ ap option_copied c.in_default.is in
+    let none : option_map (λ k. k.1) (known_of c.args.names.now.names c.args.name.now) ≡ None = sym c.schema.ensures ∙ ap option_copied c.in_default.is in
     let out = g.K.Sink.written c.args.out.now in
-    subst (Appends out out) (layout-unknown on (found c.args.db.now c.args.name.now) none ∙ piece-name c.found_names.ensures.rows c.args.db.now files before world c.args.name.now c.args.day is_day) (Appends-nil out)
+    subst (Appends out out) (layout-unknown on (found c.args.names.now.names c.args.name.now) none ∙ piece-name c.found_names.ensures.rows c.args.names.now.names files before world c.args.name.now c.args.day is_day) (Appends-nil out)
 
 pub returns-clause-put : goal.returns-clause-put
 returns-clause-put g c files before world =
     let on = λ (rel : Relation). relation_at row_order row_at rel c.args.day in
     let is_day = subst IsRefDay c.number.ensures.value c.number.ensures.range in
-    let known : option_map (λ k. k.1) (known_of c.args.db.now c.args.name.now) ≡ Some c.in-Some.schema.now = search rules in
-    let held : rows_of c.args.db.now c.args.name.now ≡ Some c.in-Some-rel.rel.now = search rules in
+    let known : option_map (λ k. k.1) (known_of c.args.names.now.names c.args.name.now) ≡ Some c.in-Some.schema.now = search rules in
+    let held : rows_of c.args.names.now.names c.args.name.now ≡ Some c.in-Some-rel.rel.now = search rules in
     let rows : c.as_slice.result.now ≡ relation_at row_order row_at c.in-Some-rel.rel.now c.args.day =
     c.as_slice.ensures.value ∙ c.in_ok-rows.ensures ∙ ap (λ cmp. relation_at cmp row_at c.in-Some-rel.rel.now c.args.day) (λ i x y. c.order_of_rows.ensures.order x y i) in
     let piece =
-    ap (layout c.in-Some.schema.now) rows ∙ layout-found on (found c.args.db.now c.args.name.now) c.in-Some.schema.now c.in-Some-rel.rel.now known held
-    ∙ piece-name c.found_names.ensures.rows c.args.db.now files before world c.args.name.now c.args.day is_day in
+    ap (layout c.in-Some.schema.now) rows ∙ layout-found on (found c.args.names.now.names c.args.name.now) c.in-Some.schema.now c.in-Some-rel.rel.now known held
+    ∙ piece-name c.found_names.ensures.rows c.args.names.now.names files before world c.args.name.now c.args.day is_day in
     subst (λ t. IsPut (g.K.Sink.written c.args.out.now) (g.K.Sink.written c.put_layout.new.out) t c.put_layout.result) piece c.put_layout.ensures.put
 
 pub returns-in_err-rows-clause-put : goal.returns-in_err-rows-clause-put

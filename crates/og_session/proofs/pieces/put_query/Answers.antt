@@ -12,5 +12,5 @@ returns-clause-put g c files before world =
     let rows : c.as_slice.result.now ≡ relation_at row_order row_at c.in_ok-rel.rel c.args.day =
     c.as_slice.ensures.value ∙ c.in_ok-rows.ensures ∙ ap (λ cmp. relation_at cmp row_at c.in_ok-rel.rel c.args.day) (λ i x y. c.order_of_rows.ensures.order x y i) in
     let is_day = subst IsRefDay c.number.ensures.value c.number.ensures.range in
-    let piece = piece-query c.found_names.ensures.rows c.args.db.now files before world c.args.query.now c.args.day c.as_slice.result.now is_day (rows ∙ c.in_ok-rel.ensures.law c.args.day is_day) in
+    let piece = piece-query c.found_names.ensures.rows c.args.names.now.names files before world c.args.query.now c.args.day c.as_slice.result.now is_day (rows ∙ c.in_ok-rel.ensures.law c.args.day is_day) in
     subst (λ t. IsPut (g.K.Sink.written c.args.out.now) (g.K.Sink.written c.put_layout.new.out) t c.put_layout.result) piece c.put_layout.ensures.put

@@ -1,8 +1,10 @@
-use Rattle.std.proofs.Common.{ℕ, List, IfOk, IfErr, sym, ap, ◌∙◌, subst}
+use Rattle.std.proofs.Common.{ℕ, List, IfOk, IfErr, sym, subst}
+use Rattle.std.specs.List.{All}
+use Rattle.og_session.specs.Lives.{IsLiveStmt}
 use Rattle.og_session.specs.Ends.{IsSourceOf, IsStopBefore}
-use Rattle.og_session.specs.Runs.{IsScriptOf, first_unbuilt}
-use Rattle.og_session.proofs.CommandLemmas.{load_built}
-use Rattle.og_session.proofs.ScriptLemmas.{at_built}
+use Rattle.og_session.specs.Runs.{IsScriptOf}
+use Rattle.og_session.proofs.CommandLemmas.{load_live}
+use Rattle.og_session.proofs.ScriptLemmas.{at_live}
 use Rattle.og_session.proofs.script.script_of.Goals as goal
 
 pub returns-in-Run-clause-script : goal.returns-in-Run-clause-script
@@ -13,8 +15,8 @@ returns-in-Run-clause-script g c =
 pub returns-in-Run-clause-stops : goal.returns-in-Run-clause-stops
 returns-in-Run-clause-stops g c = subst (λ k. IfErr c.read_script.result (IsStopBefore k)) (sym c.in-Run.is) (c.read_script.ensures.stops c.in-Run.workers)
 
-pub returns-in_ok-at_statements-in-At-clause-built : goal.returns-in_ok-at_statements-in-At-clause-built
-returns-in_ok-at_statements-in-At-clause-built g c = ap (first_unbuilt 1) c.in_ok-at_statements-in-At.ensures ∙ at_built 1 c.in-At.file c.in-At.day
+pub returns-in_ok-at_statements-in-At-clause-live : goal.returns-in_ok-at_statements-in-At-clause-live
+returns-in_ok-at_statements-in-At-clause-live g c = subst (All IsLiveStmt) (sym c.in_ok-at_statements-in-At.ensures) (at_live c.in-At.file c.in-At.day)
 
-pub returns-in_ok-load_statements-in-Load-clause-built : goal.returns-in_ok-load_statements-in-Load-clause-built
-returns-in_ok-load_statements-in-Load-clause-built g c = ap (first_unbuilt 1) c.in_ok-load_statements-in-Load.ensures ∙ load_built 1 c.in-Load.rows
+pub returns-in_ok-load_statements-in-Load-clause-live : goal.returns-in_ok-load_statements-in-Load-clause-live
+returns-in_ok-load_statements-in-Load-clause-live g c = subst (All IsLiveStmt) (sym c.in_ok-load_statements-in-Load.ensures) (load_live c.in-Load.rows)

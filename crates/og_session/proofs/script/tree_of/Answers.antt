@@ -1,7 +1,7 @@
-use Rattle.std.proofs.Common.{◌≡◌, Some, refl, rules}
+use Rattle.std.proofs.Common.{rules}
 use Rattle.std.proofs.lemmas.Result.{err_from_is_err_and}
 use Rattle.og_parse.specs.Script as parser
-use Rattle.og_session.specs.Runs.{first_unbuilt, not_built}
+use Rattle.og_session.proofs.LiveScripts.{script_live}
 use Rattle.og_session.proofs.ScriptLemmas.{lex_stop, parse_stop}
 use Rattle.og_session.proofs.script.tree_of.Goals as goal
 
@@ -15,9 +15,7 @@ returns-in_err-script-clause-stopped c =
     let p = err_from_is_err_and c.from_residual-in_err-script.result c.from_residual-in_err-script.ensures.1 in
     rw (p.1, p.2) (parse_stop c.args.bytes.now c.in_ok-tokens.tokens.items c.in_err-script.field-0.0 c.requires c.in_ok-tokens.ensures.tokens (search rules))
 
-pub returns-in-Some-clause-stopped : goal.returns-in-Some-clause-stopped
-returns-in-Some-clause-stopped c =
-    let stmts = c.in_ok-script.script.stmts in
-    let tree : parser.IsScript c.args.bytes.now c.in_ok-tokens.tokens.items stmts = search rules in
-    let unbuilt : first_unbuilt 1 stmts ≡ Some c.in-Some.statement = search rules in
-    not_built c.requires stmts (c.in_ok-tokens.tokens.items, c.in_ok-tokens.ensures.tokens, tree) c.in-Some.statement unbuilt refl
+pub returns-clause-live : goal.returns-clause-live
+returns-clause-live c =
+    let tree : parser.IsScript c.args.bytes.now c.in_ok-tokens.tokens.items c.in_ok-script.script.stmts = search rules in
+    script_live c.args.bytes.now c.in_ok-tokens.tokens.items c.in_ok-script.script.stmts tree

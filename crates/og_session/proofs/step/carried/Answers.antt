@@ -4,23 +4,24 @@ use Rattle.og_db.specs.Held.{known_of}
 use Rattle.og_session.specs.Contents.{outcome_of}
 use Rattle.og_session.specs.Ends.{StepEnds}
 use Rattle.og_session.proofs.CountLemmas.{check_counted, check_stopped}
-use Rattle.og_session.proofs.StepLemmas.{check-stopped, typed_built}
+use Rattle.og_session.proofs.StateLemmas.{left_state}
+use Rattle.og_session.proofs.StepLemmas.{check-stopped, typed_live}
 use Rattle.og_session.proofs.step.carried.Goals as goal
 
-pub done-requires-clause-built : goal.done-requires-clause-built
-done-requires-clause-built g c κs within = typed_built (known_of c.args.db.now) c.args.stmt c.in-Ok.typed c.requires.built c.in-Ok.ensures.typed
+pub done-requires-clause-live : goal.done-requires-clause-live
+done-requires-clause-live g c κs within = typed_live (known_of c.args.names.now.names) c.args.stmt c.in-Ok.typed c.requires.live c.in-Ok.ensures.typed
 
 pub returns-in-Ok-clause-ends : goal.returns-in-Ok-clause-ends
 returns-in-Ok-clause-ends g c start contents holds before state =
-    let good = subst (λ k. checked k c.args.stmt ≡ Ok c.in-Ok.typed) (c.known_names.ensures c.args.db.now state.files before state.world) c.in-Ok.ensures.typed in
+    let good = subst (λ k. checked k c.args.stmt ≡ Ok c.in-Ok.typed) (c.known_names.ensures c.args.names.now.names state.files before state.running.world) c.in-Ok.ensures.typed in
     let ends = c.done.ensures.ends start contents holds before state in
-    (ends.0, ends.1, subst (λ o. StepEnds start c.args.number before o c.done.new.db (g.F.Files.folder c.done.new.files) ends.0 c.done.result) (sym (ap (outcome_of contents before) good)) ends.2)
+    (ends.0, ends.1, subst (λ o. StepEnds start c.args.number before o c.done.new.names (g.F.Files.folder c.done.new.files) ends.0 c.done.result) (sym (ap (outcome_of contents before) good)) ends.2)
 
 pub returns-in-Err-clause-ends : goal.returns-in-Err-clause-ends
 returns-in-Err-clause-ends g c start contents holds before state =
-    let known = c.known_names.ensures c.args.db.now state.files before state.world in
+    let known = c.known_names.ensures c.args.names.now.names state.files before state.running.world in
     rw c.of_check.ensures
-    (check-stopped start c.args.number before contents c.args.stmt c.args.db.now _ _ c.in-Err.refusal state
+    (check-stopped start c.args.number before contents c.args.stmt c.args.names.now _ _ c.in-Err.refusal (left_state start before c.args.names.now _ state)
     (λ bad. subst (λ k. checked k c.args.stmt ≡ Err c.in-Err.refusal) known (c.in-Err.ensures.refused bad)))
 
 pub returns-in-Err-clause-late : goal.returns-in-Err-clause-late

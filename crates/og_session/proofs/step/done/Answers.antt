@@ -7,25 +7,25 @@ use Rattle.og_session.proofs.StepLemmas.{effect-names, of_names}
 use Rattle.og_session.proofs.step.done.Goals as goal
 
 pub on_names-requires-clause-names : goal.on_names-requires-clause-names
-on_names-requires-clause-names g c κs within = of_names c.args.typed c.requires.built c.in_default.not-Save c.in_default.not-OpenFile c.in_default.not-ImportFile
+on_names-requires-clause-names g c κs within = of_names c.args.typed c.in_default.not-Save c.in_default.not-OpenFile c.in_default.not-ImportFile
 
 pub returns-in-Save-clause-ends : goal.returns-in-Save-clause-ends
 returns-in-Save-clause-ends g c start contents holds before state =
-    ([], Appends-nil _, subst (λ t. StepEnds start c.args.number before (taken (effect_of contents before t)) c.args.db.now (g.F.Files.folder c.save.new.files) [] c.save.result) (sym c.in-Save.is) (c.save.ensures.ends start c.args.number before state))
+    ([], Appends-nil _, subst (λ t. StepEnds start c.args.number before (taken (effect_of contents before t)) c.args.names.now (g.F.Files.folder c.save.new.files) [] c.save.result) (sym c.in-Save.is) (c.save.ensures.ends start c.args.number before state))
 
 pub returns-in-OpenFile-clause-ends : goal.returns-in-OpenFile-clause-ends
 returns-in-OpenFile-clause-ends g c start contents holds before state =
-    ([], Appends-nil _, subst (λ t. StepEnds start c.args.number before (taken (effect_of contents before t)) c.open.new.db (g.F.Files.folder c.open.new.files) [] c.open.result) (sym c.in-OpenFile.is) (c.open.ensures.ends start contents holds before state))
+    ([], Appends-nil _, subst (λ t. StepEnds start c.args.number before (taken (effect_of contents before t)) c.open.new.names (g.F.Files.folder c.open.new.files) [] c.open.result) (sym c.in-OpenFile.is) (c.open.ensures.ends start contents holds before state))
 
 pub returns-in-ImportFile-clause-ends : goal.returns-in-ImportFile-clause-ends
 returns-in-ImportFile-clause-ends g c start contents holds before state =
-    ([], Appends-nil _, subst (λ t. StepEnds start c.args.number before (taken (effect_of contents before t)) c.import.new.db (g.F.Files.folder c.import.new.files) [] c.import.result) (sym c.in-ImportFile.is) (c.import.ensures.ends start contents holds before state))
+    ([], Appends-nil _, subst (λ t. StepEnds start c.args.number before (taken (effect_of contents before t)) c.import.new.names (g.F.Files.folder c.import.new.files) [] c.import.result) (sym c.in-ImportFile.is) (c.import.ensures.ends start contents holds before state))
 
 pub returns-in_default-clause-ends : goal.returns-in_default-clause-ends
 returns-in_default-clause-ends g c start contents holds before state =
-    let names = of_names c.args.typed c.requires.built c.in_default.not-Save c.in_default.not-OpenFile c.in_default.not-ImportFile in
+    let names = of_names c.args.typed c.in_default.not-Save c.in_default.not-OpenFile c.in_default.not-ImportFile in
     let ends = c.on_names.ensures.ends start c.args.number before (g.F.Files.folder c.args.files.now) state in
-    (ends.0, ends.1, subst (λ o. StepEnds start c.args.number before (taken o) c.on_names.new.db (g.F.Files.folder c.args.files.now) ends.0 c.on_names.result) (sym (effect-names start c.args.number before contents c.args.typed names)) ends.2)
+    (ends.0, ends.1, subst (λ o. StepEnds start c.args.number before (taken o) c.on_names.new.names (g.F.Files.folder c.args.files.now) ends.0 c.on_names.result) (sym (effect-names start c.args.number before contents c.args.typed names)) ends.2)
 
 pub returns-in_default-clause-late : goal.returns-in_default-clause-late
 returns-in_default-clause-late g c = step_by_put c.on_names.result c.on_names.ensures.stops

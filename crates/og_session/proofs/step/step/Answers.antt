@@ -1,22 +1,22 @@
-use Rattle.std.proofs.Common.{◌≡◌, ◌++◌, true, ap, subst, sym, ◌∙◌}
+use Rattle.std.proofs.Common.{◌++◌, ap, subst, sym, ◌∙◌}
 use Rattle.std.specs.Option.{option_to_list}
 use Rattle.og_session.specs.Contents.{outcome}
 use Rattle.og_session.specs.Ends.{StepEnds}
-use Rattle.og_session.specs.Runs.{is_built}
+use Rattle.og_session.specs.Lives.{IsLiveStmt}
 use Rattle.og_session.proofs.TurnLemmas.{reverse-last, same_first, same_rest}
 use Rattle.og_session.proofs.step.step.Goals as goal
 
-pub carried-requires-clause-built : goal.carried-requires-clause-built
-carried-requires-clause-built g c κs within =
+pub carried-requires-clause-live : goal.carried-requires-clause-live
+carried-requires-clause-live g c κs within =
     let next = c.requires.next in
     let popped = reverse-last c.args.left.now.items c.pop.new.self.items c.in-Some.stmt (c.pop.ensures.items ∙ ap (λ o. c.pop.new.self.items ++ option_to_list o) c.in-Some.is) in
-    subst (λ s. is_built s ≡ true) (same_first (sym next.2 ∙ popped)) next.3
+    subst IsLiveStmt (same_first (sym next.2 ∙ popped)) next.3
 
 pub returns-clause-ends : goal.returns-clause-ends
 returns-clause-ends g c stmt rest e start contents holds before state =
     let popped = reverse-last c.args.left.now.items c.pop.new.self.items c.in-Some.stmt (c.pop.ensures.items ∙ ap (λ o. c.pop.new.self.items ++ option_to_list o) c.in-Some.is) in
     let ends = c.carried.ensures.ends start contents holds before state in
-    (ends.0, ends.1, subst (λ s. StepEnds start c.args.number before (outcome contents before s) c.carried.new.db (g.F.Files.folder c.carried.new.files) ends.0 c.carried.result) (same_first (sym popped ∙ e)) ends.2)
+    (ends.0, ends.1, subst (λ s. StepEnds start c.args.number before (outcome contents before s) c.carried.new.names (g.F.Files.folder c.carried.new.files) ends.0 c.carried.result) (same_first (sym popped ∙ e)) ends.2)
 
 pub returns-clause-left : goal.returns-clause-left
 returns-clause-left g c stmt rest e =

@@ -12,7 +12,7 @@ use Rattle.og_session.proofs.valid.range_of.Goals as goal
 
 pub returns : goal.returns
 returns c =
-    let db = c.args.db.now in
+    let db = c.args.names.now.names in
     let name = c.args.name.now in
     let day = c.args.day in
     let columns = c.requires.0 in
