@@ -114,13 +114,18 @@ pub fn try_files<H: Threads + Sync + AllocGlobal>(
 }
 
 // Whether the run ended with the file fault at that call, with a front of the output, the files as the
-// calls before left them and the names that the statements before make, and no further call.
+// calls before left them and the names that the statements before make, and no further call. Names are not
+// counted where there is a live result: it is none of the database, and a DROP may keep it there.
 fn is_unfiled(outcome: &Outcome, call: u64, whole: &Outcome, stmts: &[Stmt], case: &Case) -> bool {
     outcome.status == 7
         && outcome.has_front(case)
         && outcome.files.calls() == call
         && outcome.has_files_after(call.saturating_sub(1), whole, case)
-        && outcome.names == names_before(stmts, call)
+        && (stmts.iter().any(|stmt| is_live(stmt)) || outcome.names == names_before(stmts, call))
+}
+
+fn is_live(stmt: &Stmt) -> bool {
+    matches!(stmt, Stmt::Live { .. })
 }
 
 // How many names the statements leave before that call of the files. Each statement on files makes one.
