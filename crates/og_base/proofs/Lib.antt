@@ -13,5 +13,6 @@ pub mod SetMembers
 pub mod SetTexts
 pub mod SetOpLemmas
 pub mod SideLemmas
+pub mod SpanLemmas
 pub mod SweepLemmas
 pub mod TextForms

@@ -3,6 +3,7 @@ pub mod Bytes
 pub mod Calendar
 pub mod GroupLaws
 pub mod Groups
+pub mod Held
 pub mod Letters
 pub mod Set
 pub mod SetOps

@@ -1,26 +1,32 @@
 //! Sets of reference days.
-ghost use Rattle.std.specs.Prelude.{◌≡◌, ℤ, Bool, true, false, not, ◌&&◌, ◌||◌, ◌↔◌, ◌<◌, int_lt, int_le, List, [], ◌∷◌, length, slice_get, slice_index_or, Some, IfOk, IsTrue};
+ghost use Rattle.std.specs.Prelude.{◌≡◌, ℤ, Bool, true, false, not, ◌&&◌, ◌||◌, ◌↔◌, ◌<◌, int_lt, int_le, List, [], ◌∷◌, length, slice_get, slice_index_or, Some, IfOk, IfSome, IsTrue};
 ghost use Rattle.og_base.specs.Calendar.{IsRefDay, first_day, before_all, after_all};
-ghost use Rattle.og_base.specs.Ranges.{IsNormal, holds_day, ranges_of_cut};
+ghost use Rattle.og_base.specs.Ranges.{IsNormal, in_range, holds_day, ranges_of_cut};
 ghost use Rattle.og_base.specs.Boundaries.{ranges_of, Rises};
 ghost use Rattle.og_base.specs.SetOps.{op_holds};
 
+mod boundaries;
 mod cuts;
+mod span;
 mod sweep;
 
 use crate::day::{ExtDay, RefDay};
 use crate::memory::NoMemory;
 use crate::range::{Cut, DayRange};
+use boundaries::Few;
+pub(crate) use boundaries::{Boundaries, Room};
 use cuts::cut_boundaries;
+use span::Span;
 use std::alloc::Global;
 use std::marker::Model;
 use sweep::{Op, are_disjoint, combine, meet_four};
 
-/// A set of reference days, seen as its ranges: they rise and do not touch.
+/// A set of reference days, seen as its ranges: they rise and do not touch. At most two ranges take no memory of
+/// their own.
 #[derive(Drop)]
 pub struct RtSet {
     alloc: Global,
-    boundaries: Vec<RefDay>,
+    boundaries: Boundaries,
 }
 
 impl Model for RtSet {
@@ -31,9 +37,9 @@ impl Model for RtSet {
 
     ghost Value = { List Range };
 
-    ghost view = { λ s. ranges_of s.boundaries.items };
+    ghost view = { λ s. ranges_of s.boundaries };
 
-    ghost invariant = { λ s. Rises before_all s.boundaries.items };
+    ghost invariant = { λ s. Rises before_all s.boundaries };
 }
 
 impl RtSet {
@@ -41,25 +47,26 @@ impl RtSet {
     pub fn empty(alloc: Global) -> RtSet
         ensures { result ≡ [] }
     {
-        RtSet {
-            alloc,
-            boundaries: Vec::new(alloc),
-        }
+        RtSet::of_boundaries(alloc, Boundaries::none())
     }
 
     /// The set of all reference days.
     pub fn all(alloc: Global) -> Result<RtSet, NoMemory>
         ensures { IfOk result (λ s. s ≡ record { lo = first_day; hi = after_all } ∷ []) }
     {
-        let all = [RefDay::FIRST];
-        RtSet::of_slice(alloc, all.as_slice())
+        let all = Boundaries::of(Few::one(RefDay::FIRST));
+        Ok(RtSet::of_boundaries(alloc, all))
     }
 
     /// The days before `p`.
     pub fn below(alloc: Global, p: ExtDay) -> Result<RtSet, NoMemory>
         ensures { IfOk result (λ s. (d : ℤ) → IsRefDay d → holds_day s d ≡ int_lt d p) }
     {
-        RtSet::between(alloc, RefDay::FIRST, p)
+        let days = Span {
+            lo: RefDay::FIRST,
+            hi: p,
+        };
+        Ok(RtSet::of_span(alloc, days))
     }
 
     /// The days after `p`.
@@ -67,47 +74,43 @@ impl RtSet {
         ensures { IfOk result (λ s. (d : ℤ) → IsRefDay d → holds_day s d ≡ int_lt p d) }
     {
         match RefDay::from_number(p.number() + 1) {
-            Some(next) => RtSet::between(alloc, next, ExtDay::POS),
+            Some(next) => {
+                let days = Span {
+                    lo: next,
+                    hi: ExtDay::POS,
+                };
+                Ok(RtSet::of_span(alloc, days))
+            }
             None => Ok(RtSet::empty(alloc)),
         }
     }
 
-    // The days from `lo` on, up to the day before `hi`: none where `hi` is at most `lo`.
-    fn between(alloc: Global, lo: RefDay, hi: ExtDay) -> Result<RtSet, NoMemory>
-        ensures { IfOk result (λ s. (d : ℤ) → holds_day s d ≡ (not (int_lt d lo) && int_lt d hi)) }
+    // The days of the span.
+    fn of_span(alloc: Global, span: Span) -> RtSet
+        ensures { (d : ℤ) → holds_day result d ≡ in_range span d }
     {
-        if hi.number() <= lo.number() {
-            return Ok(RtSet::empty(alloc));
+        if span.hi.number() <= span.lo.number() {
+            return RtSet::empty(alloc);
         }
-        let Some(end) = hi.as_ref_day() else {
-            let from = [lo];
-            return RtSet::of_slice(alloc, from.as_slice());
+        let few = match span.hi.as_ref_day() {
+            Some(end) => Few::two(span.lo, end),
+            None => Few::one(span.lo),
         };
-        let ends = [lo, end];
-        RtSet::of_slice(alloc, ends.as_slice())
-    }
-
-    // The set with those boundaries, on its own memory.
-    fn of_slice(alloc: Global, boundaries: &[RefDay]) -> Result<RtSet, NoMemory>
-        requires { Rises before_all boundaries.now }
-        ensures { IfOk result (λ s. s ≡ ranges_of boundaries.now) }
-    {
-        let owned = Vec::from_slice(alloc, boundaries)?;
-        Ok(RtSet::of_boundaries(alloc, owned))
+        RtSet::of_boundaries(alloc, Boundaries::of(few))
     }
 
     /// The days of a cut.
     pub fn of_cut(alloc: Global, c: &Cut) -> Result<RtSet, NoMemory>
         ensures { IfOk result (λ s. s ≡ ranges_of_cut c.now) }
     {
-        let (days, count) = cut_boundaries(c);
-        RtSet::of_slice(alloc, &days[..count])
+        let few = cut_boundaries(c);
+        Ok(RtSet::of_boundaries(alloc, Boundaries::of(few)))
     }
 
     // The set with those boundaries.
-    pub(crate) fn of_boundaries(alloc: Global, boundaries: Vec<RefDay>) -> RtSet
-        requires { Rises before_all boundaries.items }
-        ensures { result ≡ ranges_of boundaries.items }
+    pub(crate) fn of_boundaries(alloc: Global, boundaries: Boundaries) -> RtSet
+        requires { Rises before_all boundaries }
+        ensures { result ≡ ranges_of boundaries }
     {
         RtSet { alloc, boundaries }
     }
@@ -116,7 +119,11 @@ impl RtSet {
     pub fn copy(&self) -> Result<RtSet, NoMemory>
         ensures { IfOk result (λ s. s ≡ self.now) }
     {
-        RtSet::of_slice(self.alloc, self.boundaries.as_slice())
+        let boundaries = self.boundaries.copy(self.alloc)?;
+        Ok(RtSet {
+            alloc: self.alloc,
+            boundaries,
+        })
     }
 
     // The set that the operation makes of two sets, given by their boundaries.
@@ -143,7 +150,12 @@ impl RtSet {
         ensures { IfOk result (λ s. (d : ℤ) → holds_day s d ≡ (holds_day self.now d && holds_day other.now d)) }
     {
         let (left, right) = (self.boundaries.as_slice(), other.boundaries.as_slice());
-        RtSet::combined(self.alloc, Op::Meet, left, right)
+        match (Span::of(left), Span::of(right)) {
+            (Some(mine), Some(theirs)) => Ok(RtSet::of_span(self.alloc, mine.meet(theirs))),
+            (Some(mine), None) if mine.is_all() => other.copy(),
+            (None, Some(theirs)) if theirs.is_all() => self.copy(),
+            _ => RtSet::combined(self.alloc, Op::Meet, left, right),
+        }
     }
 
     /// The days of this set that the other does not hold.
@@ -158,7 +170,7 @@ impl RtSet {
     pub fn complement(&self) -> Result<RtSet, NoMemory>
         ensures { IfOk result (λ s. (d : ℤ) → IsRefDay d → holds_day s d ≡ not (holds_day self.now d)) }
     {
-        let whole = [RefDay::FIRST];
+        let whole = Few::one(RefDay::FIRST);
         RtSet::combined(
             self.alloc,
             Op::Minus,
@@ -187,7 +199,7 @@ impl RtSet {
         ensures days { IsTrue result ↔ ((d : ℤ) → holds_day self.now d ≡ false) }
         ensures ranges { IsTrue result ↔ (self.now ≡ []) }
     {
-        self.boundaries.is_empty()
+        self.boundaries.as_slice().is_empty()
     }
 
     /// Whether the two sets have no day in common. Takes no memory.
@@ -201,7 +213,7 @@ impl RtSet {
     pub fn range_count(&self) -> usize
         ensures { result ≡ length self.now }
     {
-        self.boundaries.len().div_ceil(2)
+        self.boundaries.as_slice().len().div_ceil(2)
     }
 
     /// The range at that place.
@@ -229,7 +241,7 @@ impl RtSet {
     }
 }
 
-/// The set of the days that all four cuts hold. It takes its memory in one growth, before its first boundary.
+/// The set of the days that all four cuts hold.
 pub fn meet_cuts(
     alloc: Global,
     first: Cut,
@@ -240,18 +252,33 @@ pub fn meet_cuts(
     ensures { IfOk result (λ s. (d : ℤ) → holds_day s d ≡ (holds_day (ranges_of_cut first) d
         && holds_day (ranges_of_cut second) d && holds_day (ranges_of_cut third) d && holds_day (ranges_of_cut fourth) d)) }
 {
-    let (a, a_count) = cut_boundaries(&first);
-    let (b, b_count) = cut_boundaries(&second);
-    let (c, c_count) = cut_boundaries(&third);
-    let (d, d_count) = cut_boundaries(&fourth);
+    if let Some(span) = span_of_four(&first, &second, &third, &fourth) {
+        return Ok(RtSet::of_span(alloc, span));
+    }
+    let a = cut_boundaries(&first);
+    let b = cut_boundaries(&second);
+    let c = cut_boundaries(&third);
+    let d = cut_boundaries(&fourth);
     let boundaries = meet_four(
         alloc,
-        &a[..a_count],
-        &b[..b_count],
-        &c[..c_count],
-        &d[..d_count],
+        a.as_slice(),
+        b.as_slice(),
+        c.as_slice(),
+        d.as_slice(),
     )?;
     Ok(RtSet { alloc, boundaries })
+}
+
+// The days that all four cuts hold, where each has at most one range.
+fn span_of_four(first: &Cut, second: &Cut, third: &Cut, fourth: &Cut) -> Option<Span>
+    ensures { IfSome result (λ s. (d : ℤ) → in_range s d ≡ (holds_day (ranges_of_cut first.now) d
+        && holds_day (ranges_of_cut second.now) d && holds_day (ranges_of_cut third.now) d && holds_day (ranges_of_cut fourth.now) d)) }
+{
+    let a = Span::of_cut(first)?;
+    let b = Span::of_cut(second)?;
+    let c = Span::of_cut(third)?;
+    let d = Span::of_cut(fourth)?;
+    Some(a.meet(b).meet(c).meet(d))
 }
 
 // The boundary at that place, or infinity past the last one.

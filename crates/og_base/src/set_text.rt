@@ -10,7 +10,7 @@ use crate::bytes::cut_at;
 use crate::day::{ExtDay, RefDay};
 use crate::memory::NoMemory;
 use crate::range::DayRange;
-use crate::rt_set::RtSet;
+use crate::rt_set::{Boundaries, Room, RtSet};
 use crate::text::{read_day, read_ref_day, write_day};
 use std::alloc::Global;
 use thiserror::Error;
@@ -59,11 +59,12 @@ fn read_ranges(alloc: Global, text: &[u8]) -> Result<RtSet, RtRefusal>
     ensures not_a_set { result ≡ Err RtRefusal.NotASet → (r : Range) → (s : List Range) → IsNormal (r ∷ s) →
         text.now ≡ ranges_text (r ∷ s) ++ 125 ∷ [] → ⊥ }
 {
-    let mut boundaries = Vec::new(alloc);
+    let room = Room { alloc, days: 0 };
+    let mut boundaries = Boundaries::none();
     let mut low = ExtDay::NEG;
     let mut rest = text;
     'each: while let Some(front) = range_before(rest, low, b',') {
-        push_range(&mut boundaries, front.range)?;
+        push_range(&mut boundaries, room, front.range)?;
         low = front.range.hi;
         rest = front.after;
     }
@@ -73,17 +74,17 @@ fn read_ranges(alloc: Global, text: &[u8]) -> Result<RtSet, RtRefusal>
     if !front.after.is_empty() {
         return Err(RtRefusal::NotASet);
     }
-    push_range(&mut boundaries, front.range)?;
+    push_range(&mut boundaries, room, front.range)?;
     Ok(RtSet::of_boundaries(alloc, boundaries))
 }
 
 // Adds the boundaries of the range.
-fn push_range(boundaries: &mut Vec<RefDay>, range: DayRange) -> Result<(), NoMemory>
-    ensures { OnOk result (boundaries.new.items ≡ boundaries.old.items ++ boundaries_of (range ∷ [])) }
+fn push_range(boundaries: &mut Boundaries, room: Room, range: DayRange) -> Result<(), NoMemory>
+    ensures { OnOk result (boundaries.new ≡ boundaries.old ++ boundaries_of (range ∷ [])) }
 {
-    boundaries.push(range.lo)?;
+    boundaries.push(room, range.lo)?;
     if let Some(end) = range.hi.as_ref_day() {
-        boundaries.push(end)?;
+        boundaries.push(room, end)?;
     }
     Ok(())
 }

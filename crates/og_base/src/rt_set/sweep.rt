@@ -5,13 +5,10 @@ ghost use Rattle.og_base.specs.Ranges.{holds_day};
 ghost use Rattle.og_base.specs.Boundaries.{ranges_of, Rises, inside_from, rest_after, inside_after, turned, IsNext, EachEnded};
 ghost use Rattle.og_base.specs.SetOps.{op_holds};
 
+use super::boundaries::{Boundaries, Room};
 use crate::day::RefDay;
 use crate::memory::NoMemory;
 use std::alloc::Global;
-
-// For how many boundaries a set may keep room that it does not use: to give back so little costs more
-// time than it saves memory.
-const SPARE: usize = 8;
 
 /// An operation on two sets.
 #[derive(Clone, Copy)]
@@ -77,28 +74,29 @@ pub fn combine(
     op: Op,
     left: &[RefDay],
     right: &[RefDay],
-) -> Result<Vec<RefDay>, NoMemory>
+) -> Result<Boundaries, NoMemory>
     requires left_rises { Rises before_all left.now }
     requires right_rises { Rises before_all right.now }
-    ensures rises { IfOk result (λ v. Rises before_all v.items) }
-    ensures holds { IfOk result (λ v. (d : ℤ) →
-        inside_from false v.items d ≡ op_holds op (inside_from false left.now d) (inside_from false right.now d)) }
+    ensures rises { IfOk result (λ b. Rises before_all b) }
+    ensures holds { IfOk result (λ b. (d : ℤ) →
+        inside_from false b d ≡ op_holds op (inside_from false left.now d) (inside_from false right.now d)) }
 {
     let mut left = Side::of(left);
     let mut right = Side::of(right);
     let mut inside = false;
-    let mut boundaries = Vec::with_capacity(
+    let room = Room {
         alloc,
-        left.rest.len().saturating_add(right.rest.len()),
-    )?;
+        days: left.rest.len().saturating_add(right.rest.len()),
+    };
+    let mut boundaries = Boundaries::none();
     'pass: while let Some(day) = next_of(left.rest, right.rest) {
         left = left.pass(day);
         right = right.pass(day);
         let now = op.holds(left.inside, right.inside);
-        turn(&mut boundaries, inside, now, day)?;
+        turn(&mut boundaries, room, inside, now, day)?;
         inside = now;
     }
-    give_back(&mut boundaries);
+    boundaries.give_back();
     Ok(boundaries)
 }
 
@@ -121,21 +119,20 @@ pub fn are_disjoint(left: &[RefDay], right: &[RefDay]) -> bool
     true
 }
 
-/// The boundaries of the days that all four sets hold, by one pass over the boundaries of all. It takes its memory
-/// in one growth, before its first boundary.
+/// The boundaries of the days that all four sets hold, by one pass over the boundaries of all.
 pub fn meet_four(
     alloc: Global,
     first: &[RefDay],
     second: &[RefDay],
     third: &[RefDay],
     fourth: &[RefDay],
-) -> Result<Vec<RefDay>, NoMemory>
+) -> Result<Boundaries, NoMemory>
     requires first_rises { Rises before_all first.now }
     requires second_rises { Rises before_all second.now }
     requires third_rises { Rises before_all third.now }
     requires fourth_rises { Rises before_all fourth.now }
-    ensures rises { IfOk result (λ v. Rises before_all v.items) }
-    ensures holds { IfOk result (λ v. (d : ℤ) → inside_from false v.items d
+    ensures rises { IfOk result (λ b. Rises before_all b) }
+    ensures holds { IfOk result (λ b. (d : ℤ) → inside_from false b d
         ≡ (inside_from false first.now d && inside_from false second.now d && inside_from false third.now d && inside_from false fourth.now d)) }
 {
     let mut a = Side::of(first);
@@ -143,24 +140,25 @@ pub fn meet_four(
     let mut c = Side::of(third);
     let mut d = Side::of(fourth);
     let mut inside = false;
-    let mut boundaries = Vec::with_capacity(
+    let room = Room {
         alloc,
-        first
+        days: first
             .len()
             .saturating_add(second.len())
             .saturating_add(third.len())
             .saturating_add(fourth.len()),
-    )?;
+    };
+    let mut boundaries = Boundaries::none();
     'pass: while let Some(day) = next_of_four(a.rest, b.rest, c.rest, d.rest) {
         a = a.pass(day);
         b = b.pass(day);
         c = c.pass(day);
         d = d.pass(day);
         let now = all_four(a.inside, b.inside, c.inside, d.inside);
-        turn(&mut boundaries, inside, now, day)?;
+        turn(&mut boundaries, room, inside, now, day)?;
         inside = now;
     }
-    give_back(&mut boundaries);
+    boundaries.give_back();
     Ok(boundaries)
 }
 
@@ -208,21 +206,18 @@ fn next_of_four(
     if other < one { Some(other) } else { Some(one) }
 }
 
-// Gives back the room that the boundaries do not use, where it is worth it.
-fn give_back(boundaries: &mut Vec<RefDay>)
-    ensures { boundaries.new.items ≡ boundaries.old.items }
-{
-    if boundaries.capacity().saturating_sub(boundaries.len()) > SPARE {
-        boundaries.shrink_to_fit();
-    }
-}
-
 // Adds the day as a boundary, where what is inside changes at it.
-fn turn(boundaries: &mut Vec<RefDay>, was: bool, now: bool, day: RefDay) -> Result<(), NoMemory>
-    ensures { OnOk result (boundaries.new.items ≡ turned was now day boundaries.old.items) }
+fn turn(
+    boundaries: &mut Boundaries,
+    room: Room,
+    was: bool,
+    now: bool,
+    day: RefDay,
+) -> Result<(), NoMemory>
+    ensures { OnOk result (boundaries.new ≡ turned was now day boundaries.old) }
 {
     if was != now {
-        boundaries.push(day)?;
+        boundaries.push(room, day)?;
     }
     Ok(())
 }

@@ -6,8 +6,8 @@ use Rattle.og_base.proofs.set_text.read_ranges.Goals as goal
 
 pub each-preserved : goal.each-preserved
 each-preserved c =
-    let next : IsRead c.args.text.now c.push_range.new.boundaries.items c.in-Some.front.range.hi c.in-Some.front.after.now = rw c.in_ok-push_range.ensures (IsRead-next c.each.invariant c.in-Some.front.range c.in-Some.front.after.now c.in-Some.ensures.read) in
-    subst (λ (f : Front). IsRead c.args.text.now c.push_range.new.boundaries.items f.range.hi f.after.now) (sym c.front.view_is) next
+    let next : IsRead c.args.text.now c.push_range.new.boundaries c.in-Some.front.range.hi c.in-Some.front.after.now = rw c.in_ok-push_range.ensures (IsRead-next c.each.invariant c.in-Some.front.range c.in-Some.front.after.now c.in-Some.ensures.read) in
+    subst (λ (f : Front). IsRead c.args.text.now c.push_range.new.boundaries f.range.hi f.after.now) (sym c.front.view_is) next
 
 pub returns-in_default-range_before-clause-not_a_set : goal.returns-in_default-range_before-clause-not_a_set
 returns-in_default-range_before-clause-not_a_set c _ =

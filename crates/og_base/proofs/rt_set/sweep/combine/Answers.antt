@@ -7,7 +7,7 @@ use Rattle.og_base.proofs.rt_set.sweep.combine.Goals as goal
 
 pub pass-init : goal.pass-init
 pass-init c =
-    rw (c.of-left.ensures.rest, c.of-left.ensures.inside, c.of-right.ensures.rest, c.of-right.ensures.inside, c.in_ok-boundaries.ensures.items)
+    rw (c.of-left.ensures.rest, c.of-left.ensures.inside, c.of-right.ensures.rest, c.of-right.ensures.inside, c.none-boundaries.ensures)
     (IsPass-start (of_two (op_holds c.args.op)) (c.args.left.now ∷ c.args.right.now ∷ []) (op_holds-neither c.args.op) (c.requires.left_rises, (c.requires.right_rises, tt)))
 
 pub pass-preserved : goal.pass-preserved

@@ -11,7 +11,7 @@ invariant-pass l =
     IsPass (of_two (op_holds l.op))
     (record { says = inside_from false l.fn.left; inside = l.left.inside; rest = l.left.rest.now }
     ∷ record { says = inside_from false l.fn.right; inside = l.right.inside; rest = l.right.rest.now } ∷ [])
-    l.inside l.boundaries.items
+    l.inside l.boundaries
 
 abbrev pub decreases-pass : goal.decreases-pass
 decreases-pass l = total (l.left.rest.now ∷ l.right.rest.now ∷ [])

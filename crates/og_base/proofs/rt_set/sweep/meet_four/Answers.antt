@@ -6,7 +6,7 @@ use Rattle.og_base.proofs.rt_set.sweep.meet_four.Goals as goal
 
 pub pass-init : goal.pass-init
 pass-init c =
-    rw (c.of-a.ensures.rest, c.of-a.ensures.inside, c.of-b.ensures.rest, c.of-b.ensures.inside, c.of-c.ensures.rest, c.of-c.ensures.inside, c.of-d.ensures.rest, c.of-d.ensures.inside, c.in_ok-boundaries.ensures.items)
+    rw (c.of-a.ensures.rest, c.of-a.ensures.inside, c.of-b.ensures.rest, c.of-b.ensures.inside, c.of-c.ensures.rest, c.of-c.ensures.inside, c.of-d.ensures.rest, c.of-d.ensures.inside, c.none-boundaries.ensures)
     (IsPass-start of_four (c.args.first.now ∷ c.args.second.now ∷ c.args.third.now ∷ c.args.fourth.now ∷ []) refl
     (c.requires.first_rises, (c.requires.second_rises, (c.requires.third_rises, (c.requires.fourth_rises, tt)))))
 

@@ -12,7 +12,7 @@ invariant-pass l =
     ∷ record { says = inside_from false l.fn.second; inside = l.b.inside; rest = l.b.rest.now }
     ∷ record { says = inside_from false l.fn.third; inside = l.c.inside; rest = l.c.rest.now }
     ∷ record { says = inside_from false l.fn.fourth; inside = l.d.inside; rest = l.d.rest.now } ∷ [])
-    l.inside l.boundaries.items
+    l.inside l.boundaries
 
 abbrev pub decreases-pass : goal.decreases-pass
 decreases-pass l = total (l.a.rest.now ∷ l.b.rest.now ∷ l.c.rest.now ∷ l.d.rest.now ∷ [])
