@@ -1,3 +1,4 @@
 pub mod CellTexts
 pub mod RowLemmas
+pub mod SpellingLemmas
 pub mod WordLemmas

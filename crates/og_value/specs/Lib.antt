@@ -2,6 +2,8 @@ pub mod Cells
 pub mod Exact
 pub mod GroupLaws
 pub mod Groups
+pub mod HeightLaws
+pub mod Heights
 pub mod Held
 pub mod Limits
 pub mod Order

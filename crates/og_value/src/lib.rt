@@ -14,12 +14,15 @@
 mod catalog;
 mod cell;
 mod digests;
+mod height;
 mod kind;
 mod listed;
+mod measured;
 mod name;
 mod row;
 mod schema;
 mod short;
+mod spelling;
 mod term;
 mod text;
 mod value;

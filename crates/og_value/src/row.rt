@@ -9,6 +9,7 @@ ghost use Rattle.og_value.specs.declared.value.FixedValue as fixed;
 
 use crate::digests::{are_steady, loose, whole};
 use crate::listed::Listed;
+use crate::measured::Measured;
 use crate::value::{FixedValue, Value};
 use og_base::{Glue, Grouped, Groups, Instant, NoMemory, OngoingRow, RefDay, RtSet};
 use std::alloc::Global;
@@ -35,7 +36,7 @@ impl Model for Row {
 /// after each front of it.
 #[derive(Debug, PartialEq, Eq, PartialOrd, Ord, Drop)]
 pub struct FixedRow {
-    values: Listed<FixedValue>,
+    values: Measured<FixedValue>,
 }
 
 impl Model for FixedRow {
@@ -81,7 +82,7 @@ impl FixedRow {
         ensures { result ≡ values.items }
     {
         FixedRow {
-            values: Listed::of(values),
+            values: Measured::of(values),
         }
     }
 

@@ -1,10 +1,12 @@
 //! Texts in UTF-8.
-ghost use Rattle.std.specs.Prelude.{◌≡◌, Err, IfOk};
+ghost use Rattle.std.specs.Prelude.{◌≡◌, ◌<◌, ◌^◌, Err, IfOk};
 ghost use Rattle.std.specs.Str.{IsUtf8};
+ghost use Rattle.og_value.specs.Heights as meant;
 ghost use Rattle.og_value.specs.Held.{held_bytes};
 ghost use Rattle.og_value.specs.declared.text.TextRefusal.{TextRefusal};
 
 use crate::short::Short;
+use crate::spelling::spelt;
 use og_base::NoMemory;
 use std::alloc::{AllocError, Global};
 use std::cmp::Ordering;
@@ -115,6 +117,18 @@ impl Text {
         }
     }
 
+    /// The number that the first 14 bytes of the text spell, with 0 for each that is missing.
+    pub(crate) fn spelt(&self) -> u128
+        ensures number { result ≡ meant.spelt 14 0 self.now }
+        ensures bound { result < 2 ^ 113 }
+        ensures bytes { meant.AreBytes self.now }
+    {
+        match &self.held {
+            Held::Short(text) => text.spelt(),
+            Held::Long(text) => spelt(text.as_str().as_bytes()),
+        }
+    }
+
     /// The same text once more. Takes no memory for its bytes.
     pub fn copy(&self) -> Result<Text, NoMemory>
         ensures { IfOk result (λ t. t ≡ self.now) }
@@ -175,6 +189,10 @@ impl Ord for Text {
     ghost matches_eq = { texts_ties };
 
     fn cmp(&self, other: &Text) -> Ordering {
-        self.bytes().cmp(&other.bytes())
+        match (&self.held, &other.held) {
+            (Held::Short(text), Held::Short(other)) => text.compare(other),
+            (Held::Long(text), Held::Long(other)) => text.as_str().cmp(other.as_str()),
+            _ => self.bytes().cmp(&other.bytes()),
+        }
     }
 }
