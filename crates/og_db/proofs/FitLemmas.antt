@@ -5,12 +5,14 @@ use Rattle.std.specs.List.{All, AllByRecursion}
 use Rattle.std.specs.Option.{option_map}
 use Rattle.std.specs.Str.{bytes_eq}
 use Rattle.std.proofs.lemmas.List.Elements.{All-contains, All-contains_itself, All-from_recursion, All-weaker, recursion_from_All}
+use Rattle.std.proofs.lemmas.Option.{same_Some}
 use Rattle.og_base.specs.Calendar.{IsRefDay}
 use Rattle.og_base.specs.Ranges.{Range, holds_day}
 use Rattle.og_base.proofs.SetLemmas.{All-set_of, Contains-cons, Contains-cons_cases, Contains-nil, Contains-set_of}
 use Rattle.og_value.specs.Cells.{kind_of}
 use Rattle.og_value.specs.Order.{row_order}
 use Rattle.og_value.specs.Values.{value_at, row_at}
+use Rattle.og_value.specs.declared.kind.What.TheVariants as what
 use Rattle.og_value.specs.declared.schema.Column.{Column}
 use Rattle.og_value.specs.declared.value.Value.{Value}
 use Rattle.og_value.specs.declared.value.Value.TheVariants as v
@@ -19,7 +21,7 @@ use Rattle.og_ops.proofs.DayLemmas.{some_day}
 use Rattle.og_query.specs.Fits.{IsFitRow, columns_of, schemas_of}
 use Rattle.og_query.specs.Kinds.{fixed_kind}
 use Rattle.og_query.proofs.QueryLemmas.{rows_ordered}
-use Rattle.og_db.specs.Database.{Relation, HaveKinds}
+use Rattle.og_db.specs.Database.{Relation, HaveKinds, IsTableOf}
 use Rattle.og_db.specs.Fits.{IsFitFixed}
 use Rattle.og_db.specs.Held.{Held, described, found, known_of, rows_of}
 
@@ -118,3 +120,16 @@ named_held db fit name columns known = at (found db name) refl known
       ap (option_map (λ h. h.rows)) is,
       fit_of db name columns h.rows fit (ap (λ o. option_map (λ k. k.1) (option_map described o)) is ∙ known) (ap (option_map (λ h. h.rows)) is),
     )
+
+module _ (db : List (Held Relation)) (name : List ℕ) (columns : List Column) (known : IsTableOf columns db name) where
+  -- a table has a relation
+  pub table_has_rows : rows_of db name ≡ None → ⊥
+  table_has_rows none = at (found db name) known none
+    where
+      at : (o : Option (Held Relation)) → option_map described o ≡ Some (what.Table, columns) → option_map (λ h. h.rows) o ≡ None → ⊥
+      at None is none = cc
+      at (Some h) is none = cc
+
+  -- and has no other columns
+  pub same_columns : (others : List Column) → IsTableOf others db name → columns ≡ others
+  same_columns others also = ap (λ k. k.1) (same_Some (what.Table, columns) (what.Table, others) (sym known ∙ also))

@@ -5,7 +5,7 @@ use Rattle.std.specs.List.{AllByRecursion, IsDistinct}
 use Rattle.std.specs.Option.{option_map}
 use Rattle.std.specs.Str.{bytes_eq}
 use Rattle.std.proofs.lemmas.Map.Keys.{IsDistinct-head, IsDistinct-tail}
-use Rattle.og_db.specs.Held.{Held, described, found, known_of, rows_of, made_of, all_made_of, changed_at, without}
+use Rattle.og_db.specs.Held.{Held, described, found, known_of, rows_of, made_of, all_made_of, changed_at, put_at, without}
 use Rattle.og_db.specs.Statements.{or_else}
 
 -- what is so of all names but one, and of that one where a test is false
@@ -89,6 +89,24 @@ module _ {V : Type 0} (name : List ℕ) where
       each [] all = tt
       each (h ∷ hs) all = (λ here. e ∙ ap (λ rows. f (at rows)) (sym (all.0 here)), each hs all.1)
 
+module _ {V : Type 0} (name : List ℕ) where
+  -- changes that make the same of the rows of that name
+  changed_at-alike : (g f : V → V) (db : List (Held V)) → AllByRecursion (λ h. bytes_eq name h.name ≡ true → g h.rows ≡ f h.rows) db → changed_at name g db ≡ changed_at name f db
+  changed_at-alike g f [] all = refl
+  changed_at-alike g f (h ∷ hs) all = λ i. one (bytes_eq name h.name) all.0 i ∷ changed_at-alike g f hs all.1 i
+    where
+      one : (b : Bool) → (b ≡ true → g h.rows ≡ f h.rows) → (if b then made_of g h else h) ≡ (if b then made_of f h else h)
+      one true e = λ i. record { name = h.name; what = h.what; columns = h.columns; rows = e refl i }
+      one false e = refl
+
+  -- where names are apart, what is made of the rows of a name is put in their place by a change of that name
+  pub put_at-made : (old : V) (f : V → V) (db : List (Held V)) → rows_of db name ≡ Some old → IsDistinct bytes_eq (map (λ h. h.name) db) → put_at name (f old) db ≡ changed_at name f db
+  put_at-made old f db is apart = changed_at-alike (λ _. f old) f db (each db (rows_found name db old is apart))
+    where
+      each : (db : List (Held V)) → AllByRecursion (λ h. bytes_eq name h.name ≡ true → h.rows ≡ old) db → AllByRecursion (λ h. bytes_eq name h.name ≡ true → f old ≡ f h.rows) db
+      each [] all = tt
+      each (h ∷ hs) all = (λ here. ap f (sym (all.0 here)), each hs all.1)
+
 -- a name that is changed to what it was
 pub changed_same : {V : Type 0} (name : List ℕ) (hs : List (Held V)) → changed_at name (λ rows. rows) hs ≡ hs
 changed_same name [] = refl
@@ -97,6 +115,10 @@ changed_same name (h ∷ hs) = λ i. as_it_was (bytes_eq name h.name) i ∷ chan
     as_it_was : (b : Bool) → (if b then made_of (λ rows. rows) h else h) ≡ h
     as_it_was true = refl
     as_it_was false = refl
+
+-- and a name whose own rows are put in their place
+pub put_at-own : {V : Type 0} (name : List ℕ) (old : V) (db : List (Held V)) → rows_of db name ≡ Some old → IsDistinct bytes_eq (map (λ h. h.name) db) → put_at name old db ≡ db
+put_at-own name old db is apart = put_at-made name old (λ rows. rows) db is apart ∙ changed_same name db
 
 module _ {V W : Type 0} (f : V → W) where
   -- one more name

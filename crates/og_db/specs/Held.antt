@@ -42,6 +42,10 @@ all_made_of f hs = map (made_of f) hs
 abbrev pub changed_at : {V : Type 0} → List ℕ → (V → V) → List (Held V) → List (Held V)
 changed_at name f hs = map (λ h. if bytes_eq name h.name then made_of f h else h) hs
 
+-- the same names, where that one has these rows
+abbrev pub put_at : {V : Type 0} → List ℕ → V → List (Held V) → List (Held V)
+put_at name rows hs = changed_at name (λ _. rows) hs
+
 -- the names without that one; the others keep their order
 abbrev pub without : {V : Type 0} → List ℕ → List (Held V) → List (Held V)
 without name hs = filter (λ h. not (bytes_eq name h.name)) hs

@@ -14,7 +14,7 @@ ghost use Rattle.og_query.specs.Sizes.{query_size};
 ghost use Rattle.og_query.specs.declared.query.Query.{Query};
 ghost use Rattle.og_query.specs.declared.typed.Typed.TheVariants as t;
 ghost use Rattle.og_db.specs.Fits.{KeepsKinds};
-ghost use Rattle.og_db.specs.Held.{Held, known_of, rows_of, changed_at, without};
+ghost use Rattle.og_db.specs.Held.{Held, known_of, rows_of, changed_at, put_at, without};
 ghost use Rattle.og_db.specs.Insertion.{on_all_days};
 ghost use Rattle.og_db.specs.Live.{kept_at};
 ghost use Rattle.og_db.specs.Runs.{AreWithin, is_stored, sizes_at, stored};
@@ -186,14 +186,85 @@ impl Db {
         self.names[at].rel.append(more)
     }
 
-    // Puts a relation in the place of that of a table.
-    fn put(&mut self, name: &Name, rel: Rel<Row>)
+    /// Puts a relation in the place of that of a table. Takes no memory.
+    pub fn put(&mut self, name: &Name, rel: Rel<Row>)
         requires { (columns : List Column) × IsTableOf columns self.old name.now × HaveKinds columns rel }
-        ensures { self.new ≡ changed_at name.now (λ _. rel) self.old }
+        ensures { self.new ≡ put_at name.now rel self.old }
     {
         if let Some(at) = self.names.get_index_of(name) {
             self.names[at].rel = rel;
         }
+    }
+
+    /// The relation that `insert` leaves under the name: that of the table with the rows behind its own, each
+    /// present on all days. Refused only for want of memory.
+    pub fn inserted(&self, name: &Name, rows: Vec<Row>) -> Result<Rel<Row>, NoMemory>
+        requires table { (columns : List Column) × IsTableOf columns self.now name.now × All (IsFitRow columns) rows.items }
+        ensures added { IfOk result (λ rel. put_at name.now rel self.now ≡ changed_at name.now (λ old. old ++ on_all_days rows.items) self.now) }
+        ensures fits { IfOk result (λ rel. (columns : List Column) → IsTableOf columns self.now name.now → HaveKinds columns rel) }
+        ensures law { IfOk result (λ rel. (d : ℤ) → IsRefDay d →
+            names_at d (put_at name.now rel self.now) ≡ names_after d (names_at d self.now) (t.Insert name.now rows.items)) }
+        ensures size { IfOk result (λ rel. AreWithin (sizes_at (put_at name.now rel self.now)) (name_sizes_after (sizes_at self.now) (t.Insert name.now rows.items))) }
+    {
+        self.rows_fit();
+        self.names_differ();
+        let added = on_all_days(*self.names.allocator(), rows)?;
+        let Some(rel) = self.rel(name.bytes()) else {
+            unreachable!();
+        };
+        let mut all = rel.copy()?;
+        all.append(added)?;
+        Ok(all)
+    }
+
+    /// The relation that `delete` leaves under the name: the rows of the table, each on the days on which the
+    /// condition does not hold of it. Refused only for want of memory.
+    pub fn deleted(&self, name: &Name, cond: &Cond) -> Result<Rel<Row>, NoMemory>
+        requires table { (columns : List Column) × IsTableOf columns self.now name.now }
+        ensures fits { IfOk result (λ rel. (columns : List Column) → IsTableOf columns self.now name.now → HaveKinds columns rel) }
+        ensures law { IfOk result (λ rel. (d : ℤ) → IsRefDay d →
+            names_at d (put_at name.now rel self.now) ≡ names_after d (names_at d self.now) (t.Delete name.now cond.now)) }
+        ensures size { IfOk result (λ rel. AreWithin (sizes_at (put_at name.now rel self.now)) (name_sizes_after (sizes_at self.now) (t.Delete name.now cond.now))) }
+    {
+        let left = Restrict {
+            cond: CondDays { cond },
+        };
+        self.made(name, &left)
+    }
+
+    /// The relation that `update` leaves under the name: the rows of the table, with the assigned ones in the
+    /// place of those of which the condition holds, on the days on which it does. Refused only for want of
+    /// memory.
+    pub fn updated(&self, name: &Name, sets: &[Assign], cond: &Cond) -> Result<Rel<Row>, NoMemory>
+        requires table { (columns : List Column) × IsTableOf columns self.now name.now × All (IsFitAssign columns) sets.now }
+        ensures fits { IfOk result (λ rel. (columns : List Column) → IsTableOf columns self.now name.now → HaveKinds columns rel) }
+        ensures law { IfOk result (λ rel. (d : ℤ) → IsRefDay d →
+            names_at d (put_at name.now rel self.now) ≡ names_after d (names_at d self.now) (t.Update name.now sets.now cond.now)) }
+        ensures size { IfOk result (λ rel. AreWithin (sizes_at (put_at name.now rel self.now)) (name_sizes_after (sizes_at self.now) (t.Update name.now sets.now cond.now))) }
+    {
+        let changed = Split {
+            cond: CondDays { cond },
+            items: Assignments { sets },
+        };
+        self.made(name, &changed)
+    }
+
+    // What the operator makes of a table's relation.
+    fn made<O: UnaryOp<Row>>(&self, name: &Name, op: &O) -> Result<Rel<Row>, NoMemory>
+        requires table { (columns : List Column) × IsTableOf columns self.now name.now × KeepsKinds columns (O.plain op.now) }
+        ensures fits { IfOk result (λ rel. (columns : List Column) → IsTableOf columns self.now name.now → HaveKinds columns rel) }
+        ensures law { IfOk result (λ rel. (d : ℤ) → IsRefDay d →
+            names_at d (put_at name.now rel self.now) ≡ changed_at name.now (O.plain op.now d) (names_at d self.now)) }
+        ensures size { IfOk result (λ rel. AreWithin (sizes_at (put_at name.now rel self.now)) (changed_at name.now (O.most op.now) (sizes_at self.now))) }
+    {
+        self.rows_fit();
+        self.names_differ();
+        let Some(rel) = self.rel(name.bytes()) else {
+            unreachable!();
+        };
+        let made = op.apply(*self.names.allocator(), rel)?;
+        made.some_days();
+        Ok(made)
     }
 
     /// Adds the rows to a table, each present on all days. Refused only for want of memory, and then
@@ -223,10 +294,9 @@ impl Db {
         ensures size { OnOk result (AreWithin (sizes_at self.new) (name_sizes_after (sizes_at self.old) (t.Delete name.now cond.now))) }
         ensures refused { OnErr result (self.new ≡ self.old) }
     {
-        let left = Restrict {
-            cond: CondDays { cond },
-        };
-        self.change(name, &left)
+        let left = self.deleted(name, cond)?;
+        self.put(name, left);
+        Ok(())
     }
 
     /// Puts the assigned rows in the place of the rows of a table of which the condition holds, on the
@@ -240,31 +310,7 @@ impl Db {
         ensures size { OnOk result (AreWithin (sizes_at self.new) (name_sizes_after (sizes_at self.old) (t.Update name.now sets.now cond.now))) }
         ensures refused { OnErr result (self.new ≡ self.old) }
     {
-        let changed = Split {
-            cond: CondDays { cond },
-            items: Assignments { sets },
-        };
-        self.change(name, &changed)
-    }
-
-    // Puts what the operator makes of a table's relation in its place.
-    fn change<O: UnaryOp<Row>>(&mut self, name: &Name, op: &O) -> Result<(), NoMemory>
-        requires table { (columns : List Column) × IsTableOf columns self.old name.now × KeepsKinds columns (O.plain op.now) }
-        ensures law { OnOk result ((d : ℤ) → IsRefDay d →
-            names_at d self.new ≡ changed_at name.now (O.plain op.now d) (names_at d self.old)) }
-        ensures known { OnOk result ((other : List ℕ) → known_of self.new other ≡ known_of self.old other) }
-        ensures others { OnOk result (AreKept name.now self.old self.new) }
-        ensures size { OnOk result (AreWithin (sizes_at self.new) (changed_at name.now (O.most op.now) (sizes_at self.old))) }
-        ensures refused { OnErr result (self.new ≡ self.old) }
-    {
-        let alloc = *self.names.allocator();
-        let Some(rel) = self.rel(name.bytes()) else {
-            return Ok(());
-        };
-        let changed = op.apply(alloc, rel)?;
-        changed.some_days();
-        self.rows_fit();
-        self.names_differ();
+        let changed = self.updated(name, sets, cond)?;
         self.put(name, changed);
         Ok(())
     }

@@ -4,7 +4,9 @@
 //! whose rows fit them. `create`, `insert`, `delete`, `update`, `keep` and `drop_name` make of it,
 //! where names and kinds fit, on every day what the ordinary statement makes of the rows of that day,
 //! with no more rows than its size (specs/Statements.antt); where they are refused nothing has
-//! changed. `keep` is given its rows: `Db` asks no query. So a live result has a name here and no rows:
+//! changed. `inserted`, `deleted` and `updated` make the relation that such a statement leaves under the
+//! name of a table, and `put` puts it in place without memory. `keep` is given its rows: `Db` asks no
+//! query. So a live result has a name here and no rows:
 //! `live` adds it, `settle` makes it a kept result, and `drop_live` takes all of them out; what becomes of
 //! live results at a statement stands in specs/Live.antt. What statements on files make of a database and
 //! of the files that are saved stands in specs/Effects.antt; the laws say what a list of statements comes
@@ -20,6 +22,7 @@ mod insertion;
 mod laws;
 mod sought;
 
+pub use assignments::Assignments;
 pub use database::Db;
 pub use insertion::on_all_days;
 pub use laws::{

@@ -1,16 +1,51 @@
--- The rows of a day of the pairs that the code holds: of the first pairs and one more, and of blocks of pairs.
-use Rattle.std.proofs.Common.{◌≡◌, ◌++◌, ◌+◌, ◌<◌, ℕ, ℤ, List, [], ◌∷◌, length, get_or, take, map, Ordering, sym, ap, ◌∙◌}
-use Rattle.std.specs.List.{flat_map}
-use Rattle.std.proofs.lemmas.List.{map-append, take_more}
+-- The pairs that the code holds: those that do not pass a test, and the rows of a day, of the first pairs and one more, and of blocks of pairs.
+use Rattle.std.proofs.Common.{◌≡◌, ◌++◌, ◌+◌, ◌<◌, ℕ, ℤ, Bool, true, false, not, cond, List, [], ◌∷◌, length, get_or, take, map, filter, Ordering, refl, sym, ap, ◌∙◌}
+use Rattle.std.specs.List.{All, flat_map}
+use Rattle.std.proofs.lemmas.List.{length-map, map-append, take_more}
 use Rattle.std.proofs.lemmas.List.Concat.{flat_map-cons}
+use Rattle.std.proofs.lemmas.List.Elements.{All-append, All-filter}
 use denote.Ref.{Bor}
 use Rattle.og_base.specs.Set.{IsExactOrder, set_of}
 use Rattle.og_base.proofs.SetLemmas.{set_of-append, set_of-append_right}
 use Rattle.og_par.specs.Phase.{MadeOfEach}
 use Rattle.og_rel.specs.declared.pair.Pair.{Pair}
-use Rattle.og_rel.specs.Relations.{present}
+use Rattle.og_rel.specs.Relations.{HasDays, others, present}
 use Rattle.og_rel.specs.Pairs.{present_of_pairs}
 use Rattle.og_rel.proofs.PresentLemmas.{present-append}
+
+module _ {R : Type 0} (passes : R → Bool) (pairs : List (Pair R)) where
+  -- the pairs whose rows do not pass
+  abbrev pub other_pairs : List (Pair R)
+  other_pairs = filter (λ p. not (passes p.row)) pairs
+
+  -- are the rows that do not pass
+  pub others-pairs : map (λ p. (p.row, p.days)) other_pairs ≡ others passes (map (λ p. (p.row, p.days)) pairs)
+  others-pairs = each pairs
+    where
+      each : (ps : List (Pair R)) → map (λ p. (p.row, p.days)) (filter (λ p. not (passes p.row)) ps) ≡ others passes (map (λ p. (p.row, p.days)) ps)
+      each [] = refl
+      each (p ∷ ps) =
+          elim (passes p.row) as (λ b. map (λ q. (q.row, q.days)) (cond (not b) (p ∷ filter (λ q. not (passes q.row)) ps) (filter (λ q. not (passes q.row)) ps))
+          ≡ cond (not b) ((p.row, p.days) ∷ others passes (map (λ q. (q.row, q.days)) ps)) (others passes (map (λ q. (q.row, q.days)) ps))) [
+            | true ↦ each ps
+            | false ↦ ap (λ rows. (p.row, p.days) ∷ rows) (each ps)
+          ]
+
+  -- so many
+  pub length-others : length other_pairs ≡ length (others passes (map (λ p. (p.row, p.days)) pairs))
+  length-others = sym (length-map other_pairs (λ p. (p.row, p.days))) ∙ ap length others-pairs
+
+  -- with more behind them
+  pub replaced-pairs : (more kept now : List (Pair R)) → kept ≡ other_pairs → now ≡ kept ++ more
+      → map (λ p. (p.row, p.days)) now ≡ others passes (map (λ p. (p.row, p.days)) pairs) ++ map (λ p. (p.row, p.days)) more
+  replaced-pairs more kept now left all =
+      ap (map (λ p. (p.row, p.days))) (all ∙ ap (λ ps. ps ++ more) left) ∙ map-append (λ p. (p.row, p.days)) other_pairs more ∙ ap (λ rows. rows ++ map (λ p. (p.row, p.days)) more) others-pairs
+
+  -- each of them has a day, where each of the pairs and of those behind has
+  pub replaced-days : (more kept now : List (Pair R)) → kept ≡ other_pairs → now ≡ kept ++ more
+      → All (λ p. HasDays p.days) pairs → All (λ p. HasDays p.days) more → All (λ p. HasDays p.days) now
+  replaced-days more kept now left all days more_days =
+      rw (all ∙ ap (λ ps. ps ++ more) left) (All-append (λ p. HasDays p.days) other_pairs more (All-filter (λ p. not (passes p.row)) (λ p. HasDays p.days) pairs days) more_days)
 
 module _ {R F : Type 0} (at : R → ℤ → F) (d : ℤ) where
   -- of pairs one after the other

@@ -1,5 +1,5 @@
 -- Relations: rows with the ranges of their days, and what they are at a day.
-use Rattle.std.specs.Prelude.{◌≢◌, ℤ, List, [], ◌∷◌, if◌then◌else◌}
+use Rattle.std.specs.Prelude.{◌≢◌, not, ℤ, Bool, List, [], ◌∷◌, filter, if◌then◌else◌}
 use Rattle.std.specs.declared.cmp.Ordering.{Ordering}
 use Rattle.og_base.specs.Ranges.{Range, IsNormal, holds_day}
 use Rattle.og_base.specs.Set.{set_of}
@@ -21,3 +21,7 @@ relation_at cmp at rel d = set_of cmp (present at rel d)
 abbrev pub stored : {R : Type 0} → R → List Range → List (R × List Range)
 stored row [] = []
 stored row (r ∷ rs) = (row, r ∷ rs) ∷ []
+
+-- the rows that do not pass a test, with their days
+abbrev pub others : {R : Type 0} → (R → Bool) → List (R × List Range) → List (R × List Range)
+others passes rel = filter (λ p. not (passes p.0)) rel

@@ -3,8 +3,9 @@
 //! A `Rel` is the list of its rows with their days, of which none has no day. On a day it is the
 //! rising list of the rows that are present, each once (`relation_at` in specs/Relations.antt):
 //! `at` makes it alone, `at_workers` by several workers. `push` and `append` add their rows or
-//! change nothing, and `copy` equals its source. specs/Algebra.antt has UNION, EXCEPT and INTERSECT
-//! of sets of rows of one day. The trait `Tables` tells the relation of each name.
+//! change nothing, `replace` puts rows in the place of those that pass a `RowTest` or changes nothing,
+//! and `copy` equals its source. specs/Algebra.antt has UNION, EXCEPT and INTERSECT of sets of rows of
+//! one day. The trait `Tables` tells the relation of each name.
 //!
 //! No tests here: those of several workers stand in og_samples, and what scripts reach is tested by
 //! the cases.
@@ -14,7 +15,9 @@ mod blocks;
 mod pair;
 mod relation;
 mod rising_rows;
+mod row_test;
 mod tables;
 
 pub use relation::Rel;
+pub use row_test::RowTest;
 pub use tables::Tables;

@@ -1,7 +1,8 @@
 //! A row and the days on which it is present.
-ghost use Rattle.std.specs.Prelude.{◌≡◌, ◌++◌, [], ◌∷◌, IfOk, OnOk};
+ghost use Rattle.std.specs.Prelude.{◌≡◌, ◌++◌, [], ◌∷◌, IfOk, OnOk, filter, length, not};
 ghost use Rattle.og_rel.specs.Pairs.{present_of_pairs};
 
+use crate::row_test::RowTest;
 use og_base::{Instant, NoMemory, OngoingRow, RefDay, RtSet};
 use std::alloc::Global;
 
@@ -53,4 +54,11 @@ fn add_row<R: Instant>(
         rows.push(pair.row.at(alloc, d)?)?;
     }
     Ok(())
+}
+
+// The number of pairs whose rows do not pass the test.
+pub(crate) fn count_other_pairs<R, T: RowTest<R>>(pairs: &[Pair<R>], test: &T) -> usize
+    ensures { result ≡ length (filter (λ p. not (T.passes test.now p.row)) pairs.now) }
+{
+    pairs.iter().filter(|pair| !test.test(&pair.row)).count()
 }

@@ -1,13 +1,14 @@
 //! Relations.
-ghost use Rattle.std.specs.Prelude.{◌≡◌, ◌++◌, ◌<◌, ◌≤◌, List, [], ◌∷◌, IfOk, OnOk, OnErr, length, slice_index_or};
+ghost use Rattle.std.specs.Prelude.{◌≡◌, ◌++◌, ◌<◌, ◌≤◌, List, [], ◌∷◌, IfOk, OnOk, OnErr, not, length, slice_index_or};
 ghost use Rattle.std.specs.List.{All};
 ghost use Rattle.og_base.specs.Ranges.{Range};
 ghost use Rattle.og_par.specs.Limits.{max_workers};
-ghost use Rattle.og_rel.specs.Relations.{HasDays, relation_at, stored};
+ghost use Rattle.og_rel.specs.Relations.{HasDays, others, relation_at, stored};
 
 use crate::blocks::{AtDay, blocks_of};
-use crate::pair::{Pair, present_rows};
+use crate::pair::{Pair, count_other_pairs, present_rows};
 use crate::rising_rows::rising_rows;
+use crate::row_test::RowTest;
 use og_base::{Instant, NoMemory, OngoingRow, RefDay, RtSet};
 use og_par::{Gate, par_rows};
 use std::alloc::Global;
@@ -70,6 +71,33 @@ impl<R> Rel<R> {
         let mut more = more;
         self.pairs.append(&mut more.pairs)?;
         Ok(())
+    }
+
+    /// Puts `more` in the place of the rows that pass the test; the others keep their order. Refused only
+    /// for want of memory, and then nothing has changed.
+    pub fn replace<T: RowTest<R>>(&mut self, test: &T, more: Rel<R>) -> Result<(), NoMemory>
+    where
+        R: Drop,
+        ensures replaced { OnOk result (self.new ≡ others (T.passes test.now) self.old ++ more) }
+        ensures refused { OnErr result (self.new ≡ self.old) }
+    {
+        let mut more = more;
+        // Room for all first: what is taken out does not come back.
+        self.pairs.reserve(more.pairs.len())?;
+        self.pairs.retain(
+            |pair: &Pair<R>| -> bool
+                ensures { result ≡ not (T.passes test.entry.now pair.now.row) }
+            { !test.test(&pair.row) },
+        );
+        self.pairs.append(&mut more.pairs)?;
+        Ok(())
+    }
+
+    /// The number of rows that do not pass the test: those that `replace` leaves. Takes no memory.
+    pub fn count_others<T: RowTest<R>>(&self, test: &T) -> usize
+        ensures { result ≡ length (others (T.passes test.now) self.now) }
+    {
+        count_other_pairs(self.pairs.as_slice(), test)
     }
 
     /// The number of rows.
