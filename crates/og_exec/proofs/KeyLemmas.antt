@@ -21,13 +21,19 @@ use Rattle.og_plan.specs.Joins.{are_key_kinds}
 use Rattle.og_plan.specs.Meaning.{column, are_equal}
 use Rattle.og_plan.specs.Shapes.{is_key_pair}
 use Rattle.og_plan.specs.declared.plan.ColPair.{ColPair}
-use Rattle.og_exec.specs.Keys.{key_value, key, have_one_key}
+use Rattle.og_exec.specs.ColumnKeys.{apart, column_key}
+use Rattle.og_exec.specs.Keys.{key_value, place_in, key, have_one_key}
 use Rattle.og_exec.proofs.ShapeLemmas.{HasKinds}
 
 -- the step of a loop that appends to a key what it has of one more column
 pub keyed_more : {A B : Type 0} (f : A → B) (xs : List A) (i : ℕ) (d x : A) (y : B) (old new : List B) → i < length xs → x ≡ get_or xs i d
     → map f (take i xs) ≡ old → f x ≡ y → new ≡ old ++ y ∷ [] → map f (take (i + 1) xs) ≡ new
 keyed_more f xs i d x y old new within is before e step = map_more f xs i d within ∙ ap₂ (λ a b. a ++ b ∷ []) before (ap f (sym is) ∙ e) ∙ sym step
+
+-- a key with its first value apart has what it has of the first pair, and behind it what it has of the others
+pub column_keyed : (left : Bool) (pairs others : List ColPair) (pair : ColPair) (row : Fixed) (first : FixedValue) (rest : List FixedValue) → pairs ≡ pair ∷ others
+    → key_value (column row (place_in left pair)) ≡ first → key left others row ≡ rest → column_key left pairs row ≡ apart (first ∷ rest)
+column_keyed left pairs others pair row first rest is here later = ap (λ ps. column_key left ps row) is ∙ ap₂ (λ x xs. apart (x ∷ xs)) here later
 
 -- two values have equal parts of a key
 abbrev tie : FixedValue → FixedValue → Bool

@@ -1,12 +1,12 @@
 -- Where the periods in two columns of a glued row overlap, so do the spans of its rows.
-use Rattle.std.proofs.Common.{◌≡◌, true≢false, ◌++◌, ◌+◌, ◌<◌, ◌≤◌, ◌≤ℤ◌, ◌&&◌, ℕ, ℤ, Bool, true, false, not, List, [], Option, Some, None, length, slice_get, get_or, int_lt, refl, sym, ap, ap₂, subst, ◌∙◌, arith}
+use Rattle.std.proofs.Common.{◌≡◌, true≢false, ◌++◌, ◌+◌, ◌-◌, ◌⊎◌, inl, inr, nat_lt, nat_le, if◌then◌else◌, ◌<◌, ◌≤◌, ◌≤ℤ◌, ◌&&◌, ℕ, ℤ, Bool, true, false, not, List, [], Option, Some, None, IfSome, length, slice_get, get_or, int_lt, refl, sym, ap, ap₂, subst, ◌∙◌, arith}
 use Rattle.std.proofs.lemmas.Int.{ints}
 use Rattle.std.specs.List.{All, list_all}
 use Rattle.std.specs.Option.{option_map, unwrap_or}
 use Rattle.std.proofs.lemmas.Bool.{and_parts}
 use Rattle.std.proofs.lemmas.List.{get_or_append_left, get_or-append-add, get_or_past, length-map}
 use Rattle.std.proofs.lemmas.List.Folds.{list_all_at}
-use Rattle.std.proofs.lemmas.Option.{slice_get-map, unwrap_or-slice_get}
+use Rattle.std.proofs.lemmas.Option.{same_Some, slice_get-map, unwrap_or-slice_get}
 use Rattle.og_base.specs.declared.range.FixedPeriod.{FixedPeriod}
 use Rattle.og_join.specs.Joined.{DoOverlap, AreTold}
 use Rattle.og_time.specs.FixedOperations.{least_of, greatest_of, is_empty_period, are_nonempty, overlaps_period}
@@ -14,6 +14,8 @@ use Rattle.og_time.specs.Period.{period_at}
 use Rattle.og_time.specs.Point.{Point, point_at}
 use Rattle.og_value.specs.Values.{value_at, row_at}
 use Rattle.og_value.specs.declared.term.Pred.TheVariants as pred
+use Rattle.og_value.specs.declared.value.FixedValue.{FixedValue}
+use Rattle.og_value.specs.declared.value.FixedValue.TheVariants as f
 use Rattle.og_value.specs.declared.value.Value.{Value}
 use Rattle.og_value.specs.declared.value.Value.TheVariants as v
 use Rattle.og_query.specs.Conditions.{relates, truth}
@@ -23,6 +25,7 @@ use Rattle.og_query.specs.declared.condition.Cond.{Cond}
 use Rattle.og_query.specs.declared.condition.Cond.TheVariants as c
 use Rattle.og_query.specs.declared.expression.Expr.TheVariants as e
 use Rattle.og_query.proofs.Equations.{meaning-Column, truth-Relate}
+use Rattle.og_plan.specs.Joins.{across}
 use Rattle.og_plan.specs.Meaning.{all_hold, column, do_overlap, matches}
 use Rattle.og_plan.specs.declared.plan.ColPair.{ColPair}
 use Rattle.og_exec.specs.Spans.{span_of, span_at, span_in, do_overlap_and}
@@ -56,6 +59,46 @@ round_overlap a b p q al ah bl bh h =
       before = grind (arith, ints, al, bh, meet.0);
       after = grind (arith, ints, bl, ah, meet.1);
     }
+
+-- the two columns that lie across are those that were given, the left one first
+pub across_is : (width m n : ℕ) (pair : ColPair) → across width (Some m) (Some n) ≡ Some pair
+    → (pair.left < width) × (((pair.left ≡ m) × (width + pair.right ≡ n)) ⊎ ((pair.left ≡ n) × (width + pair.right ≡ m)))
+across_is width m n pair e = at (nat_lt m width && nat_le width n) (nat_lt n width && nat_le width m) refl refl e
+  where
+    at : (b c : Bool) → (nat_lt m width && nat_le width n) ≡ b → (nat_lt n width && nat_le width m) ≡ c
+        → (if b then Some (record { left = m; right = n - width }) else (if c then Some (record { left = n; right = m - width }) else None)) ≡ Some pair
+        → (pair.left < width) × (((pair.left ≡ m) × (width + pair.right ≡ n)) ⊎ ((pair.left ≡ n) × (width + pair.right ≡ m)))
+    at true c is _ e =
+        subst (λ p. (p.left < width) × (((p.left ≡ m) × (width + p.right ≡ n)) ⊎ ((p.left ≡ n) × (width + p.right ≡ m)))) (same_Some _ pair e) (grind (arith, is), inl (refl, grind (arith, is)))
+    at false true is ie e =
+        subst (λ p. (p.left < width) × (((p.left ≡ m) × (width + p.right ≡ n)) ⊎ ((p.left ≡ n) × (width + p.right ≡ m)))) (same_Some _ pair e) (grind (arith, ie), inr (refl, grind (arith, ie)))
+    at false false is ie e = cc
+
+-- values overlap in either order
+overlap_turned : (x y : FixedValue) → relates pred.Overlaps x y ≡ true → relates pred.Overlaps y x ≡ true
+overlap_turned (f.Period p) (f.Period q) e = grind (arith, ints, e)
+overlap_turned (f.Period p) (f.Int n) e = cc
+overlap_turned (f.Period p) (f.Text n) e = cc
+overlap_turned (f.Period p) (f.Date n) e = cc
+overlap_turned (f.Int p) y e = cc
+overlap_turned (f.Text p) y e = cc
+overlap_turned (f.Date p) y e = cc
+
+-- where two columns are told to overlap, so are those that are found across, where they are
+pub across_tells : (found : Option ColPair) (part : Cond) (width m n : ℕ) → found ≡ across width (Some m) (Some n)
+    → ((d : ℤ) (row : Fixed) → truth d row part ≡ true → relates pred.Overlaps (column row m) (column row n) ≡ true)
+    → IfSome found (λ pair. (d : ℤ) (row : Fixed) → truth d row part ≡ true → relates pred.Overlaps (column row pair.left) (column row (width + pair.right)) ≡ true)
+across_tells (Some pair) part width m n is told =
+    λ d row holds. elim (across_is width m n pair (sym is)).1 [
+      | inl same ↦ ap₂ (λ a b. relates pred.Overlaps (column row a) (column row b)) same.0 same.1 ∙ told d row holds
+      | inr turned ↦ ap₂ (λ a b. relates pred.Overlaps (column row a) (column row b)) turned.0 turned.1 ∙ overlap_turned (column row m) (column row n) (told d row holds)
+    ]
+across_tells None part width m n is told = tt
+
+-- and the left one is a column of the left row
+pub across_within : (found : Option ColPair) (width m n : ℕ) → found ≡ across width (Some m) (Some n) → IfSome found (λ pair. pair.left < width)
+across_within (Some pair) width m n is = (across_is width m n pair (sym is)).0
+across_within None width m n is = tt
 
 -- where values are periods that overlap on some day, so do their spans
 values_overlap : (x y : Value) (d : ℤ) → relates pred.Overlaps (value_at x d) (value_at y d) ≡ true → DoOverlap (span_of x) (span_of y)

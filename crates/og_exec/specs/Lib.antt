@@ -1,4 +1,6 @@
 pub mod Answers
+pub mod ColumnKeys
+pub mod KeyLaws
 pub mod Keys
 pub mod SemiKeys
 pub mod SemiLaws

@@ -97,7 +97,7 @@ fn pair_of(width: usize, part: &Cond) -> Option<ColPair>
 }
 
 // The columns at two places of the glued row, where one is in the left row and one in the right.
-fn across(width: usize, m: usize, n: usize) -> Option<ColPair>
+pub(crate) fn across(width: usize, m: usize, n: usize) -> Option<ColPair>
     ensures { result ≡ joins.across width (Some m) (Some n) }
 {
     if m < width && width <= n {

@@ -1,12 +1,14 @@
 //! The spans of the periods in two columns, and whether conditions tell that the periods overlap.
-ghost use Rattle.std.specs.Prelude.{◌≡◌, ℤ, true, length};
+ghost use Rattle.std.specs.Prelude.{◌≡◌, ◌+◌, ◌<◌, ℤ, true, IfSome, length};
 ghost use Rattle.std.specs.List.{All};
 ghost use Rattle.og_value.specs.declared.term.Pred.TheVariants as preds;
+ghost use Rattle.og_value.specs.declared.value.FixedValue.{FixedValue};
 ghost use Rattle.og_query.specs.Conditions.{relates, truth};
 ghost use Rattle.og_query.specs.Queries.{Fixed};
 ghost use Rattle.og_plan.specs.Meaning.{all_hold, column};
 ghost use Rattle.og_exec.specs.Spans as meant;
 
+use crate::semi_keys::across;
 use og_base::{DayCond, ExtDay, FixedPeriod, Glue, NoMemory, RtSet};
 use og_join::Spans;
 use og_plan::ColPair;
@@ -132,10 +134,64 @@ fn says_overlap(cond: &Cond, a: usize, b: usize) -> bool
 {
     match cond {
         Cond::Relate {
-            pred: Pred::Overlaps,
+            pred,
             left: Expr::Column(m),
             right: Expr::Column(n),
-        } => (*m == a && *n == b) || (*m == b && *n == a),
+        } => tells_overlap(pred) && ((*m == a && *n == b) || (*m == b && *n == a)),
         _ => false,
+    }
+}
+
+// Whether two periods overlap that stand so.
+fn tells_overlap(pred: &Pred) -> bool
+    ensures { result ≡ true → (x y : FixedValue) → relates pred.now x y ≡ true → relates preds.Overlaps x y ≡ true }
+{
+    match pred {
+        Pred::Overlaps | Pred::Starts | Pred::Finishes | Pred::During | Pred::Equals => true,
+        Pred::Before | Pred::Meets => false,
+    }
+}
+
+// A column of the left row, which has so many values, and one of the right of which some part says
+// that their periods overlap.
+pub(crate) fn columns_that_overlap(width: usize, parts: &Items<Cond>) -> Option<ColPair>
+    ensures says { IfSome result (λ pair. (d : ℤ) (row : Fixed) → all_hold d parts.now row ≡ true → relates preds.Overlaps (column row pair.left) (column row (width + pair.right)) ≡ true) }
+    ensures within { IfSome result (λ pair. pair.left < width) }
+{
+    'parts: for part in parts.as_slice() {
+        let found = overlap_in(width, part);
+        if found.is_some() {
+            return found;
+        }
+    }
+    None
+}
+
+// The same of one part.
+fn overlap_in(width: usize, part: &Cond) -> Option<ColPair>
+    ensures says { IfSome result (λ pair. (d : ℤ) (row : Fixed) → truth d row part.now ≡ true → relates preds.Overlaps (column row pair.left) (column row (width + pair.right)) ≡ true) }
+    ensures within { IfSome result (λ pair. pair.left < width) }
+{
+    let (m, n) = overlapping(part)?;
+    across(width, m, n)
+}
+
+// Two columns of which the condition says that their periods overlap.
+fn overlapping(cond: &Cond) -> Option<(usize, usize)>
+    ensures { IfSome result (λ p. (d : ℤ) (row : Fixed) → truth d row cond.now ≡ true → relates preds.Overlaps (column row p.0) (column row p.1) ≡ true) }
+{
+    match cond {
+        Cond::Relate {
+            pred,
+            left: Expr::Column(m),
+            right: Expr::Column(n),
+        } => {
+            if tells_overlap(pred) {
+                Some((*m, *n))
+            } else {
+                None
+            }
+        }
+        _ => None,
     }
 }

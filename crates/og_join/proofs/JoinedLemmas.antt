@@ -1,11 +1,11 @@
 -- Rows of a day that are joined: of one row, of lists one after the other, of the rows of one key, and of sets.
-use Rattle.std.proofs.Common.{◌≡◌, ◌++◌, ◌&&◌, Bool, true, false, List, [], ◌∷◌, map, filter, if◌then◌else◌, Ordering, Less, Equal, Greater, refl, sym, ap, ap₂, ◌∙◌}
+use Rattle.std.proofs.Common.{◌≡◌, ◌++◌, ◌&&◌, ◌||◌, Bool, true, false, List, [], ◌∷◌, map, filter, if◌then◌else◌, Ordering, Less, Equal, Greater, refl, sym, ap, ap₂, ◌∙◌}
 use Rattle.std.specs.Cmp.{IsTotalOrder}
-use Rattle.std.specs.List.{list_any}
+use Rattle.std.specs.List.{All, list_any}
 use Rattle.std.specs.Ordering.{eq_by_cmp, is_eq, ordering_reverse}
 use Rattle.std.proofs.lemmas.Grind.{flat_map-append}
 use Rattle.std.proofs.lemmas.List.{append-nil, map-append}
-use Rattle.std.proofs.lemmas.List.Elements.{filter-append}
+use Rattle.std.proofs.lemmas.List.Elements.{All-head, All-tail, All-weaker, filter-append}
 use Rattle.og_base.specs.Set.{IsExactOrder, set_of}
 use Rattle.og_base.proofs.SetMembers.{list_any-filter, list_any-map, list_any-set_of}
 use Rattle.og_rel.proofs.AlgebraLemmas.{same_set_by_tests, list_any-flat_map}
@@ -20,6 +20,11 @@ ties_turned {cmp = cmp} total a b = ap is_eq (total.antisymm a b) ∙ turned (cm
     turned Less = refl
     turned Equal = refl
     turned Greater = refl
+
+-- two tests that are alike of each member of a list find alike in it
+any_alike_within : {F : Type 0} (p q : F → Bool) (xs : List F) → All (λ x. p x ≡ q x) xs → list_any p xs ≡ list_any q xs
+any_alike_within p q [] h = refl
+any_alike_within p q (x ∷ xs) h = ap₂ (λ a b. a || b) (All-head (λ y. p y ≡ q y) x xs h) (any_alike_within p q xs (All-tail (λ y. p y ≡ q y) x xs h))
 
 module _ {F : Type 0} (glued : F → F → F) (meets : F → F → Bool) where
   -- two lists on the left, one after the other
@@ -57,13 +62,14 @@ module _ {F : Type 0} (glued : F → F → F) (meets : F → F → Bool) where
       ∙ any_alike (λ x. list_any t (map (glued x) (filter (meets x) ys))) (λ x. list_any (λ y. meets x y && t (glued x y)) ys) xs
       (λ x. list_any-map t (glued x) (filter (meets x) ys) ∙ list_any-filter (λ y. t (glued x y)) (meets x) ys)
 
-  -- the set of what is joined of two lists is that of what is joined of their sets, where tests tell nothing apart of the right list and another
-  pub set_of-joined : {cmp : F → F → Ordering} → IsExactOrder cmp → (xs ys zs : List F) → ((t : F → Bool) → list_any t ys ≡ list_any t zs)
+  -- the set of what is joined of two lists is that of what is joined of their sets, where no row of the left tells the right list from another by those that it meets
+  pub set_of-joined : {cmp : F → F → Ordering} → IsExactOrder cmp → (xs ys zs : List F) → All (λ x. (t : F → Bool) → list_any (λ y. meets x y && t y) ys ≡ list_any (λ y. meets x y && t y) zs) xs
       → set_of cmp (joined glued meets xs ys) ≡ set_of cmp (joined glued meets (set_of cmp xs) (set_of cmp zs))
   set_of-joined {cmp} o xs ys zs same =
       same_set_by_tests o (joined glued meets xs ys) (joined glued meets (set_of cmp xs) (set_of cmp zs))
       (λ t. list_any-joined t xs ys
-      ∙ any_alike (λ x. list_any (λ y. meets x y && t (glued x y)) ys) (λ x. list_any (λ y. meets x y && t (glued x y)) (set_of cmp zs)) xs
-      (λ x. same (λ y. meets x y && t (glued x y)) ∙ sym (list_any-set_of o.exact (λ y. meets x y && t (glued x y)) zs))
+      ∙ any_alike_within (λ x. list_any (λ y. meets x y && t (glued x y)) ys) (λ x. list_any (λ y. meets x y && t (glued x y)) (set_of cmp zs)) xs
+      (All-weaker (λ x. (t : F → Bool) → list_any (λ y. meets x y && t y) ys ≡ list_any (λ y. meets x y && t y) zs) (λ x. list_any (λ y. meets x y && t (glued x y)) ys ≡ list_any (λ y. meets x y && t (glued x y)) (set_of cmp zs))
+      (λ x told. told (λ y. t (glued x y)) ∙ sym (list_any-set_of o.exact (λ y. meets x y && t (glued x y)) zs)) xs same)
       ∙ sym (list_any-set_of o.exact (λ x. list_any (λ y. meets x y && t (glued x y)) (set_of cmp zs)) xs)
       ∙ sym (list_any-joined t (set_of cmp xs) (set_of cmp zs)))

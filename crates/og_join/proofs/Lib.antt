@@ -1,4 +1,5 @@
 pub mod BlockLemmas
+pub mod GroupLemmas
 pub mod HitLemmas
 pub mod JoinedLemmas
 pub mod OverlapJoinLemmas
@@ -6,6 +7,7 @@ pub mod OverlapLemmas
 pub mod PlaceLemmas
 pub mod PlaceTests
 pub mod SameKeyLemmas
+pub mod SoughtLemmas
 pub mod SpanLemmas
 pub mod SweepLemmas
 pub mod TryLemmas

@@ -1,13 +1,17 @@
 -- Joins on one day, and the spans that tell which rows can meet.
 use Rattle.std.specs.Prelude.{◌≡◌, ◌<ℤ◌, ℤ, Bool, true, List, map, filter}
 use Rattle.std.specs.List.{All, flat_map}
-use Rattle.og_base.specs.Calendar.{IsRefDay}
+use Rattle.og_base.specs.Calendar.{IsRefDay, before_all, after_all}
 use Rattle.og_base.specs.Ranges.{Range}
 use Rattle.og_base.specs.declared.range.FixedPeriod.{FixedPeriod}
 
 -- each row of the left glued to each of the right that it meets
 abbrev pub joined : {F : Type 0} → (F → F → F) → (F → F → Bool) → List F → List F → List F
 joined glued meets xs ys = flat_map (λ x. map (glued x) (filter (meets x) ys)) xs
+
+-- the span of all days
+abbrev pub all_days : FixedPeriod
+all_days = record { start = before_all; end = after_all }
 
 -- both spans have days, and each begins before the other ends
 pub record DoOverlap (a b : FixedPeriod) : Type 0 where

@@ -1,7 +1,9 @@
+pub mod Groups
 pub mod Hits
 pub mod Joined
 pub mod Overlaps
 pub mod Places
 pub mod SameKey
+pub mod Sought
 pub mod Sweep
 pub mod Tried

@@ -1,14 +1,16 @@
-//! The join of two relations on keys.
+//! The joins of two relations on keys, and on keys and spans.
 ghost use Rattle.std.specs.Prelude.{◌≡◌, ◌≤◌, ◌*◌, ◌&&◌, ℤ, IfOk, length};
 ghost use Rattle.std.specs.Ordering.{eq_by_cmp};
 ghost use Rattle.og_base.specs.Calendar.{IsRefDay};
 ghost use Rattle.og_base.specs.Set.{IsExact, set_of};
 ghost use Rattle.og_par.specs.Limits.{max_workers};
 ghost use Rattle.og_rel.specs.Relations.{relation_at};
-ghost use Rattle.og_join.specs.Joined.{joined};
+ghost use Rattle.og_join.specs.Joined.{joined, AreTold};
 
 use crate::hits::relation_of;
 use crate::same_key::{TryRow, left_with_others, right_by_key};
+use crate::sought::keys_sought;
+use crate::spans::{AllDays, Spans};
 use og_base::{DayCond, Glue, Instant, NoMemory};
 use og_par::{Gate, par_rows};
 use og_rel::Rel;
@@ -38,10 +40,8 @@ pub trait Keys<R: Instant> {
     ghost exact: { IsExact Self.Key.cmp };
 }
 
-/// On every day the glued rows whose keys are equal and for which the condition holds. The right
-/// rows are put in the order of their keys, and each left row is tried with those that have its key;
-/// the left rows are shared out among the workers. At most the product of rows. Refused only for want
-/// of memory.
+/// On every day the glued rows whose keys are equal and for which the condition holds. At most the
+/// product of rows. Refused only for want of memory.
 pub fn key_join<
     H: Threads + Sync,
     R: Glue + Drop + Sync + Send,
@@ -68,8 +68,54 @@ where
         (relation_at R.Fixed.cmp R.meaning left.now d) (relation_at R.Fixed.cmp R.meaning right.now d))) }
     ensures size { IfOk result (λ r. length r ≤ length left.now * length right.now) }
 {
-    let others = right_by_key(alloc, keys, right)?;
-    let rows = left_with_others(alloc, keys, left, others.as_slice())?;
-    let hits = par_rows(rt, alloc, workers, rows.as_slice(), &TryRow { cond }, gate)?;
+    key_span_join(rt, alloc, workers, left, right, keys, &AllDays, cond, gate)
+}
+
+/// On every day the glued rows whose keys are equal and for which the condition holds, where it holds
+/// on no day of two rows whose spans are empty or do not overlap. Where there are few left rows, right
+/// rows that have none of their keys are passed over. The others are put in the order of their keys,
+/// and each left row is tried with those that have its key and whose spans overlap its own; the left
+/// rows are shared out among the workers. At most the product of rows. Refused only for want of
+/// memory.
+pub fn key_span_join<
+    H: Threads + Sync,
+    R: Glue + Drop + Sync + Send,
+    Q: Keys<R> + Sync,
+    S: Spans<R> + Sync,
+    C: DayCond<R> + Sync,
+    G: Gate + Sync,
+>(
+    rt: &H,
+    alloc: Global,
+    workers: usize,
+    left: &Rel<R>,
+    right: &Rel<R>,
+    keys: &Q,
+    spans: &S,
+    cond: &C,
+    gate: &G,
+) -> Result<Rel<R>, NoMemory>
+where
+    R::Fixed: Send,
+    Q::Key: Sync,
+    requires least { 1 ≤ workers }
+    requires most { workers ≤ max_workers }
+    requires told { AreTold R.glued R.meaning (C.holds cond.now) (S.left_of spans.now) (S.right_of spans.now) left.now right.now }
+    ensures law { IfOk result (λ r. (d : ℤ) → IsRefDay d → relation_at R.Fixed.cmp R.meaning r d
+        ≡ set_of R.Fixed.cmp (joined R.glued (λ x y. eq_by_cmp Q.Key.cmp (Q.left_of keys.now x) (Q.right_of keys.now y) && C.holds cond.now d (R.glued x y))
+        (relation_at R.Fixed.cmp R.meaning left.now d) (relation_at R.Fixed.cmp R.meaning right.now d))) }
+    ensures size { IfOk result (λ r. length r ≤ length left.now * length right.now) }
+{
+    let sought = keys_sought(alloc, keys, left, right.len())?;
+    let others = right_by_key(alloc, keys, spans, &sought, right)?;
+    let rows = left_with_others(alloc, keys, spans, left, others.as_slice())?;
+    let hits = par_rows(
+        rt,
+        alloc,
+        workers,
+        rows.as_slice(),
+        &TryRow { spans, cond },
+        gate,
+    )?;
     relation_of(alloc, hits)
 }

@@ -5,12 +5,13 @@ ghost use Rattle.og_base.specs.Set.{set_of};
 ghost use Rattle.og_base.specs.declared.range.FixedPeriod.{FixedPeriod};
 ghost use Rattle.og_par.specs.Limits.{max_workers};
 ghost use Rattle.og_rel.specs.Relations.{relation_at};
+ghost use Rattle.og_join.specs.Joined as meant;
 ghost use Rattle.og_join.specs.Joined.{joined, AreTold};
 
 use crate::blocks::join_block;
 use crate::outers::{OfLeft, OfRight, rising_spans};
 use crate::tries::TryPair;
-use og_base::{DayCond, FixedPeriod, Glue, Instant, NoMemory};
+use og_base::{DayCond, ExtDay, FixedPeriod, Glue, Instant, NoMemory};
 use og_par::Gate;
 use og_rel::Rel;
 use std::alloc::Global;
@@ -34,6 +35,38 @@ pub trait Spans<R: Instant> {
     /// The span of the right row.
     fn right(&self, row: &R) -> FixedPeriod
         ensures { result ≡ right_of self.now row.now };
+}
+
+// Spans that are all days, and so tell of no two rows that they cannot meet.
+#[derive(Drop)]
+pub(crate) struct AllDays;
+
+impl<R: Instant> Spans<R> for AllDays {
+    ghost use Rattle.og_join.specs.Joined.{all_days};
+
+    ghost left_of = { λ spans row. all_days };
+
+    ghost right_of = { λ spans row. all_days };
+
+    fn left(&self, row: &R) -> FixedPeriod {
+        let _ = row;
+        all_days()
+    }
+
+    fn right(&self, row: &R) -> FixedPeriod {
+        let _ = row;
+        all_days()
+    }
+}
+
+// The span of all days.
+fn all_days() -> FixedPeriod
+    ensures { result ≡ meant.all_days }
+{
+    FixedPeriod {
+        start: ExtDay::NEG,
+        end: ExtDay::POS,
+    }
 }
 
 /// On every day the glued rows for which the condition holds, where it holds on no day of two rows

@@ -14,5 +14,5 @@ pairs-preserved c d =
 
 pub returns : goal.returns
 returns c d =
-    ap (map (λ pair. key_value (column (row_at c.args.row.now d) (place_in c.args.left pair)))) (sym (take_all _ _ c.pairs-test.false ∙ c.as_slice-pair-items.ensures))
+    ap (map (λ pair. key_value (column (row_at c.args.row.now d) (place_in c.args.left pair)))) (sym (take_all _ _ c.pairs-test.false))
     ∙ c.pairs.invariant d ∙ sym c.of.ensures

@@ -5,4 +5,4 @@ use Rattle.og_exec.specs.Keys.{key_value, place_in}
 use Rattle.og_exec.proofs.keys.key.Given as goal
 
 abbrev pub invariant-pairs : goal.invariant-pairs
-invariant-pairs l = (d : ℤ) → map (λ pair. key_value (column (row_at l.row d) (place_in l.left pair))) (take l.pair-index l.pair-items) ≡ l.values.items
+invariant-pairs l = (d : ℤ) → map (λ pair. key_value (column (row_at l.row d) (place_in l.left pair))) (take l.pair-index l.pairs) ≡ l.values.items

@@ -2,4 +2,4 @@ use Rattle.std.proofs.lemmas.Result.{IfOk-weaker}
 use Rattle.og_exec.proofs.keys.ColumnKeysKeysRow.right.Goals as goal
 
 pub returns : goal.returns
-returns c = IfOk-weaker c.key.result _ _ (λ k e d day. e d) c.key.ensures
+returns c = IfOk-weaker c.column_key.result _ _ (λ k e d day. e d) c.column_key.ensures
