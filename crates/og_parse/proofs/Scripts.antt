@@ -1,6 +1,8 @@
 -- Pieces, the statements of a script and its first fault.
-use Rattle.std.proofs.Common.{◌≡◌, ◌⊎◌, inl, inr, ◌++◌, ◌+◌, ◌==◌, ◌≤◌, ◌<◌, ℕ, suc, Bool, true, false, if◌then◌else◌, List, [], ◌∷◌, take, drop, length, Option, Some, None, Err, refl, sym, ap, ◌∙◌, subst, append_assoc, append-nil, arith}
+use Rattle.std.proofs.Common.{◌≡◌, ◌⊎◌, inl, inr, ◌++◌, ◌+◌, ◌==◌, ◌≤◌, ◌<◌, ℕ, suc, Bool, true, false, if◌then◌else◌, List, [], ◌∷◌, drop, length, Option, Some, None, Err, refl, sym, ap, ◌∙◌, subst, append_assoc, append-nil, arith}
+use Rattle.std.proofs.lemmas.List.{drop-map}
 use Rattle.std.proofs.lemmas.Option.{same_Some}
+use Rattle.og_lex.specs.declared.token.Token.{Token}
 use Rattle.og_syntax.specs.declared.lexeme.Sort.TheVariants as k
 use Rattle.og_syntax.specs.declared.lexeme.Lexeme.{Lexeme}
 use Rattle.og_syntax.specs.declared.tree.Stmt.{Stmt}
@@ -11,9 +13,10 @@ use Rattle.og_syntax.specs.Reading.{Outcome}
 use Rattle.og_parse.specs.declared.refusal.ParseRefusal.{ParseRefusal}
 use Rattle.og_parse.specs.declared.refusal.ParseRefusal.TheVariants as r
 use Rattle.og_parse.specs.Depth.{is_too_deep}
-use Rattle.og_parse.specs.Pieces.{piece_len}
+use Rattle.og_parse.specs.Pieces.{piece_of}
 use Rattle.og_parse.specs.Statements.{IsWhole, IsStatement}
 use Rattle.og_parse.specs.StatementReader.{statement, all_from, whole}
+use Rattle.og_parse.specs.Tokens.{lexeme_of, lexemes_of}
 use Rattle.og_parse.specs.Whole.{GivesAll}
 use Rattle.og_parse.specs.Script.{glued, pieces, IsGood, IsNone, HasFault, AreGood, HasFirstFault, OrNoMemory}
 use Rattle.og_parse.proofs.StatementRules.{exact-statement}
@@ -136,20 +139,28 @@ one_first_fault script number (p ∷ ps) fault other (inr a) (inr b) = one_first
 -- ---- cutting the first piece
 
 -- one lexeme is one piece
-one_piece : (b : Bool) (t : Lexeme) → (if b then (t ∷ []) ∷ [] else glued t []) ≡ take (if b then 1 else 1) (t ∷ []) ∷ pieces (drop (if b then 1 else 1) (t ∷ []))
+one_piece : (b : Bool) (t : Lexeme) → (if b then (t ∷ []) ∷ [] else glued t []) ≡ (if b then t ∷ [] else t ∷ []) ∷ pieces (drop (length (if b then t ∷ [] else t ∷ [])) (t ∷ []))
 one_piece true t = refl
 one_piece false t = refl
 
 -- the first piece with one more lexeme before it
-longer_piece : (b : Bool) (t : Lexeme) (ts : List Lexeme) → pieces ts ≡ take (piece_len ts) ts ∷ pieces (drop (piece_len ts) ts)
-    → (if b then (t ∷ []) ∷ pieces ts else glued t (pieces ts)) ≡ take (if b then 1 else suc (piece_len ts)) (t ∷ ts) ∷ pieces (drop (if b then 1 else suc (piece_len ts)) (t ∷ ts))
+longer_piece : (b : Bool) (t : Lexeme) (ts : List Lexeme) → pieces ts ≡ piece_of ts ∷ pieces (drop (length (piece_of ts)) ts)
+    → (if b then (t ∷ []) ∷ pieces ts else glued t (pieces ts)) ≡ (if b then t ∷ [] else t ∷ piece_of ts) ∷ pieces (drop (length (if b then t ∷ [] else t ∷ piece_of ts)) (t ∷ ts))
 longer_piece true t ts e = refl
 longer_piece false t ts e = ap (glued t) e
 
--- the first piece is as long as said
-pub first_piece : (t : Lexeme) (ts : List Lexeme) → pieces (t ∷ ts) ≡ take (piece_len (t ∷ ts)) (t ∷ ts) ∷ pieces (drop (piece_len (t ∷ ts)) (t ∷ ts))
+-- the first piece is what was said
+first_piece : (t : Lexeme) (ts : List Lexeme) → pieces (t ∷ ts) ≡ piece_of (t ∷ ts) ∷ pieces (drop (length (piece_of (t ∷ ts))) (t ∷ ts))
 first_piece t [] = one_piece (same_sort t.sort k.Semicolon) t
 first_piece t (u ∷ us) = longer_piece (same_sort t.sort k.Semicolon) t (u ∷ us) (first_piece u us)
+
+-- it has a lexeme
+some_piece : (t : Lexeme) (ts : List Lexeme) → 1 ≤ length (piece_of (t ∷ ts))
+some_piece t ts = go (same_sort t.sort k.Semicolon)
+  where
+    go : (b : Bool) → 1 ≤ length (if b then t ∷ [] else t ∷ piece_of ts)
+    go true = omega arith
+    go false = omega arith
 
 -- ---- the loop over pieces
 
@@ -182,38 +193,32 @@ leads_fault script all rest left xs number p (r.Syntax at) e h l = l.faulty (r.S
 leads_fault script all rest left xs number p (r.Literal at) e h l = l.faulty (r.Literal at) (subst (λ ps. HasFirstFault script number ps (r.Literal at)) (sym e) (inl h))
 leads_fault script all rest left xs number p r.NoMemory e h l = tt
 
--- where lexemes are left there is a first piece
-cut : (ts : List Lexeme) → (length ts == 0) ≡ false → pieces ts ≡ take (piece_len ts) ts ∷ pieces (drop (piece_len ts) ts)
-cut [] e = cc
-cut (t ∷ ts) e = first_piece t ts
+-- where tokens are left their first piece is cut off
+pub cut_by : (script : List ℕ) (rest left : List Token) (p : List Lexeme) (n : ℕ) → (length rest == 0) ≡ false → p ≡ piece_of (lexemes_of script rest) → n ≡ length p → left ≡ drop n rest
+    → pieces (lexemes_of script rest) ≡ p ∷ pieces (lexemes_of script left)
+cut_by script [] left p n e front len back = cc
+cut_by script (t ∷ ts) left p n e front len back =
+    first_piece (lexeme_of script t) (lexemes_of script ts)
+    ∙ ap (λ q. q ∷ pieces (drop (length q) (lexemes_of script (t ∷ ts)))) (sym front)
+    ∙ ap (λ m. p ∷ pieces (drop m (lexemes_of script (t ∷ ts)))) (sym len)
+    ∙ ap (λ us. p ∷ pieces us) (drop-map (lexeme_of script) n (t ∷ ts))
+    ∙ ap (λ us. p ∷ pieces (lexemes_of script us)) (sym back)
 
--- the same of lexemes that were split
-pub cut_by : (rest left p : List Lexeme) (n : ℕ) → (length rest == 0) ≡ false → n ≡ piece_len rest → p ≡ take n rest → left ≡ drop n rest → pieces rest ≡ p ∷ pieces left
-cut_by rest left p n some len front back =
-    cut rest some
-    ∙ ap (λ n. take n rest ∷ pieces (drop n rest)) (sym len)
-    ∙ ap (λ q. q ∷ pieces (drop n rest)) (sym front)
-    ∙ ap (λ r. p ∷ pieces r) (sym back)
+-- and it has a lexeme
+pub some_len : (script : List ℕ) (rest : List Token) (p : List Lexeme) → (length rest == 0) ≡ false → p ≡ piece_of (lexemes_of script rest) → 1 ≤ length p
+some_len script [] p e front = cc
+some_len script (t ∷ ts) p e front = subst (λ q. 1 ≤ length q) (sym front) (some_piece (lexeme_of script t) (lexemes_of script ts))
 
 -- a number above another is not 0
 not_zero : (n : ℕ) → (suc n == 0) ≡ true → ⊥
 not_zero n e = grind (arith, e)
 
--- without lexemes there are no pieces
-pub no_pieces : (ts : List Lexeme) → (length ts == 0) ≡ true → pieces ts ≡ []
-no_pieces [] e = refl
-no_pieces (t ∷ ts) e = absurd (not_zero (length ts) e)
+-- without tokens there are no pieces
+pub no_pieces : (script : List ℕ) (ts : List Token) → (length ts == 0) ≡ true → pieces (lexemes_of script ts) ≡ []
+no_pieces script [] e = refl
+no_pieces script (t ∷ ts) e = absurd (not_zero (length ts) e)
 
--- the first piece has a lexeme
-pub some_len : (ts : List Lexeme) → (length ts == 0) ≡ false → 1 ≤ piece_len ts
-some_len [] e = cc
-some_len (t ∷ ts) e = go (same_sort t.sort k.Semicolon) (piece_len ts)
-  where
-    go : (b : Bool) (n : ℕ) → 1 ≤ (if b then 1 else suc n)
-    go true n = omega arith
-    go false n = omega arith
-
--- so fewer lexemes are left
+-- so fewer tokens are left
 pub shorter : (m n left rest : ℕ) → 1 ≤ m → n ≡ m → left + n ≡ rest → left < rest
 shorter m n left rest some same back = omega (arith, some, same, back)
 
@@ -221,12 +226,18 @@ shorter m n left rest some same back = omega (arith, some, same, back)
 pub counted : (m n left rest number all : ℕ) → 1 ≤ m → n ≡ m → left + n ≡ rest → number + rest ≤ 1 + all → (number + 1) + left ≤ 1 + all
 counted m n left rest number all some same back before = omega (arith, some, same, back, before)
 
--- one more piece of lexemes that were split is good
-pub one_more_piece : (script : List ℕ) (all : List (List Lexeme)) (rest left p : List Lexeme) (n : ℕ) (xs now : List Stmt) (number : ℕ) (x : Stmt)
-    → (length rest == 0) ≡ false → n ≡ piece_len rest → p ≡ take n rest → left ≡ drop n rest → now ≡ xs ++ x ∷ [] → IsGood script p x → Leads script all xs number (pieces rest)
-    → Leads script all now (number + 1) (pieces left)
-one_more_piece script all rest left p n xs now number x some len front back e g l =
+-- one more piece of tokens that were split is good
+pub one_more_piece : (script : List ℕ) (all : List (List Lexeme)) (rest left : List Token) (p : List Lexeme) (n : ℕ) (xs now : List Stmt) (number : ℕ) (x : Stmt)
+    → (length rest == 0) ≡ false → p ≡ piece_of (lexemes_of script rest) → n ≡ length p → left ≡ drop n rest → now ≡ xs ++ x ∷ [] → IsGood script p x → Leads script all xs number (pieces (lexemes_of script rest))
+    → Leads script all now (number + 1) (pieces (lexemes_of script left))
+one_more_piece script all rest left p n xs now number x some front len back e g l =
     let same : suc number ≡ number + 1 = omega arith in
-    subst (λ zs. Leads script all zs (number + 1) (pieces left)) (sym e)
-    (subst (λ n. Leads script all (xs ++ x ∷ []) n (pieces left)) same
-    (leads_on script all (pieces rest) (pieces left) xs number p x (cut_by rest left p n some len front back) g l))
+    subst (λ zs. Leads script all zs (number + 1) (pieces (lexemes_of script left))) (sym e)
+    (subst (λ n. Leads script all (xs ++ x ∷ []) n (pieces (lexemes_of script left))) same
+    (leads_on script all (pieces (lexemes_of script rest)) (pieces (lexemes_of script left)) xs number p x (cut_by script rest left p n some front len back) g l))
+
+-- a piece of tokens that are left has a fault
+pub faulty_piece : (script : List ℕ) (all : List (List Lexeme)) (rest : List Token) (p : List Lexeme) (xs : List Stmt) (number : ℕ) (fault : ParseRefusal)
+    → (length rest == 0) ≡ false → p ≡ piece_of (lexemes_of script rest) → OrNoMemory (HasFault script number p) fault → Leads script all xs number (pieces (lexemes_of script rest)) → OrNoMemory (HasFirstFault script 1 all) fault
+faulty_piece script all rest p xs number fault some front h l =
+    leads_fault script all (pieces (lexemes_of script rest)) (pieces (lexemes_of script (drop (length p) rest))) xs number p fault (cut_by script rest (drop (length p) rest) p (length p) some front refl refl) h l

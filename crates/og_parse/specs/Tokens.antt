@@ -11,16 +11,18 @@ use Rattle.og_syntax.specs.declared.lexeme.Sort.TheVariants as k
 use Rattle.og_syntax.specs.declared.lexeme.Lexeme.{Lexeme}
 use Rattle.og_syntax.specs.Spans.{spelling}
 
--- the reserved words
+-- the reserved words, those of literals first
 abbrev pub reserved : List (List ℕ × Sort)
 reserved =
+    (codes "date", k.Date) ∷
+    (codes "ongoing", k.Ongoing) ∷
+    (codes "period", k.Period) ∷
     (codes "and", k.And) ∷
     (codes "as", k.As) ∷
     (codes "before", k.Before) ∷
     (codes "common", k.Common) ∷
     (codes "contains", k.Contains) ∷
     (codes "create", k.Create) ∷
-    (codes "date", k.Date) ∷
     (codes "delete", k.Delete) ∷
     (codes "drop", k.Drop) ∷
     (codes "during", k.During) ∷
@@ -46,11 +48,9 @@ reserved =
     (codes "not", k.Not) ∷
     (codes "of", k.Of) ∷
     (codes "on", k.On) ∷
-    (codes "ongoing", k.Ongoing) ∷
     (codes "open", k.Open) ∷
     (codes "or", k.Or) ∷
     (codes "overlaps", k.Overlaps) ∷
-    (codes "period", k.Period) ∷
     (codes "print", k.Print) ∷
     (codes "save", k.Save) ∷
     (codes "select", k.Select) ∷

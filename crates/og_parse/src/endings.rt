@@ -4,8 +4,9 @@ ghost use Rattle.og_syntax.specs.Reading.{Gives};
 ghost use Rattle.og_parse.specs.StatementReader as spec;
 
 use og_base::{RefDay, read_ref_day};
-use og_syntax::{CondText, Lexeme, Refusal, Sort, condition, expect, quoted, same_sort, sort_at};
-use sqlite_items::Items;
+use og_syntax::{
+    CondText, Lexeme, Refusal, Sort, Unquoted, condition, expect, quoted, same_sort, sort_at,
+};
 use std::alloc::Global;
 
 // The condition after WHERE, where it is there.
@@ -45,11 +46,11 @@ pub fn as_of<'a>(
 
 // The text of the day after AS OF.
 #[tactic(auto, unfolding(crate::specs::StatementReader::as_of_text))]
-fn as_of_text<'a>(
+fn as_of_text<'a, 's>(
     alloc: Global,
-    script: &[u8],
+    script: &'s [u8],
     lexemes: &'a [Lexeme],
-) -> Result<(Items<u8>, &'a [Lexeme]), Refusal>
+) -> Result<(Unquoted<'s>, &'a [Lexeme]), Refusal>
     ensures { Gives result (spec.as_of_text script.now lexemes.now) }
 {
     let rest = expect(lexemes, Sort::As)?;

@@ -5,15 +5,18 @@ ghost use Rattle.og_parse.specs.Tokens as spec;
 
 use og_syntax::Sort;
 
-// The reserved words, and the sort of each.
+// The reserved words, and the sort of each. Those of literals come first, since a script of many rows has
+// them once a row.
 const KEYWORDS: [(&[u8], Sort); 52] = [
+    (b"date", Sort::Date),
+    (b"ongoing", Sort::Ongoing),
+    (b"period", Sort::Period),
     (b"and", Sort::And),
     (b"as", Sort::As),
     (b"before", Sort::Before),
     (b"common", Sort::Common),
     (b"contains", Sort::Contains),
     (b"create", Sort::Create),
-    (b"date", Sort::Date),
     (b"delete", Sort::Delete),
     (b"drop", Sort::Drop),
     (b"during", Sort::During),
@@ -39,11 +42,9 @@ const KEYWORDS: [(&[u8], Sort); 52] = [
     (b"not", Sort::Not),
     (b"of", Sort::Of),
     (b"on", Sort::On),
-    (b"ongoing", Sort::Ongoing),
     (b"open", Sort::Open),
     (b"or", Sort::Or),
     (b"overlaps", Sort::Overlaps),
-    (b"period", Sort::Period),
     (b"print", Sort::Print),
     (b"save", Sort::Save),
     (b"select", Sort::Select),

@@ -1,22 +1,28 @@
 //! The lexemes of a script.
-ghost use Rattle.std.specs.Prelude.{◌≡◌, IfOk};
+ghost use Rattle.std.specs.Prelude.{◌≡◌, ◌≤◌, length, OnOk};
+ghost use Rattle.og_parse.specs.Pieces.{piece_of};
 ghost use Rattle.og_parse.specs.Tokens as spec;
 
 use crate::keyword::sort_of_word;
 use og_base::NoMemory;
 use og_lex::{Symbol, Token, TokenKind};
-use og_syntax::{Lexeme, Sort, bytes_of};
-use std::alloc::Global;
+use og_syntax::{Lexeme, Sort, bytes_of, same_sort};
 
-/// The lexemes of the tokens, one for each of them.
-pub fn lexemes_of(alloc: Global, script: &[u8], tokens: &[Token]) -> Result<Vec<Lexeme>, NoMemory>
-    ensures { IfOk result (λ all. all.items ≡ spec.lexemes_of script.now tokens.now) }
+/// Makes the list that of the lexemes of the first piece of the tokens, which ends with its semicolon or with
+/// the last token.
+pub fn next_piece(script: &[u8], tokens: &[Token], piece: &mut Vec<Lexeme>) -> Result<(), NoMemory>
+    ensures piece { OnOk result (piece.new.items ≡ piece_of (spec.lexemes_of script.now tokens.now)) }
+    ensures within { OnOk result (length piece.new.items ≤ length tokens.now) }
 {
-    let mut all = Vec::with_capacity(alloc, tokens.len())?;
+    piece.clear();
     'tokens: for token in tokens {
-        all.push(lexeme_of(script, *token))?;
+        let lexeme = lexeme_of(script, *token);
+        piece.push(lexeme)?;
+        if same_sort(lexeme.sort, Sort::Semicolon) {
+            return Ok(());
+        }
     }
-    Ok(all)
+    Ok(())
 }
 
 // The lexeme of the token.

@@ -1,12 +1,12 @@
 //! Scripts.
 ghost use Rattle.std.specs.Prelude.{IfOk, IfErr};
-ghost use Rattle.og_parse.specs.Script.{pieces, AreGood, HasFirstFault, IsScript, IsFirstFault, OrNoMemory};
+ghost use Rattle.og_parse.specs.Script.{IsScript, IsFirstFault, OrNoMemory};
 
-use crate::lexemes::lexemes_of;
-use crate::piece::{piece_len, read_piece};
+use crate::lexemes::next_piece;
+use crate::piece::read_piece;
 use crate::refusal::ParseRefusal;
 use og_lex::Token;
-use og_syntax::{Lexeme, Script, Stmt};
+use og_syntax::{Script, Stmt};
 use sqlite_items::Items;
 use std::alloc::Global;
 
@@ -18,22 +18,23 @@ pub fn parse(alloc: Global, script: &[u8], tokens: &[Token]) -> Result<Script, P
     ensures tree { IfOk result (λ tree. IsScript script.now tokens.now tree.stmts) }
     ensures refused { IfErr result (OrNoMemory (IsFirstFault script.now tokens.now)) }
 {
-    let lexemes = lexemes_of(alloc, script, tokens)?;
-    let stmts = statements(alloc, script, lexemes.as_slice())?;
+    let stmts = statements(alloc, script, tokens)?;
     Ok(Script { stmts })
 }
 
-// The statements of the pieces.
-fn statements(alloc: Global, script: &[u8], lexemes: &[Lexeme]) -> Result<Items<Stmt>, ParseRefusal>
-    ensures good { IfOk result (AreGood script.now (pieces lexemes.now)) }
-    ensures fault { IfErr result (OrNoMemory (HasFirstFault script.now 1 (pieces lexemes.now))) }
+// The statements of the pieces. The lexemes of one piece alone stand beside the tokens.
+fn statements(alloc: Global, script: &[u8], tokens: &[Token]) -> Result<Items<Stmt>, ParseRefusal>
+    ensures good { IfOk result (IsScript script.now tokens.now) }
+    ensures fault { IfErr result (OrNoMemory (IsFirstFault script.now tokens.now)) }
 {
     let mut stmts = Items::new(alloc);
-    let mut rest = lexemes;
+    let mut piece = Vec::new(alloc);
+    let mut rest = tokens;
     let mut number = 1;
     'pieces: while !rest.is_empty() {
-        let (piece, left) = rest.split_at(piece_len(rest));
-        stmts.push(read_piece(alloc, script, piece, number)?)?;
+        next_piece(script, rest, &mut piece)?;
+        stmts.push(read_piece(alloc, script, piece.as_slice(), number)?)?;
+        let (_, left) = rest.split_at(piece.len());
         rest = left;
         number += 1;
     }

@@ -1,6 +1,5 @@
 //! Pieces, each a statement or none.
-ghost use Rattle.std.specs.Prelude.{◌≡◌, ◌≤◌, length, true, false, IfOk, IfErr};
-ghost use Rattle.og_parse.specs.Pieces as spec;
+ghost use Rattle.std.specs.Prelude.{◌≡◌, true, false, IfOk, IfErr};
 ghost use Rattle.og_parse.specs.Whole.{GivesAll};
 ghost use Rattle.og_parse.specs.Script.{IsGood, IsNone, HasFault, OrNoMemory};
 ghost use Rattle.og_parse.specs.Depth.{is_too_deep};
@@ -9,23 +8,8 @@ ghost use Rattle.og_parse.specs.StatementReader.{whole};
 use crate::depth::is_too_deep;
 use crate::refusal::ParseRefusal;
 use crate::statement::statement;
-use og_syntax::{Lexeme, Refusal, Sort, Stmt, same_sort};
+use og_syntax::{Lexeme, Refusal, Stmt};
 use std::alloc::Global;
-
-// The number of lexemes up to the first semicolon, or of all.
-pub fn piece_len(lexemes: &[Lexeme]) -> usize
-    ensures value { result ≡ spec.piece_len lexemes.now }
-    ensures within { result ≤ length lexemes.now }
-{
-    let mut len = 0;
-    'each: for lexeme in lexemes {
-        len += 1;
-        if same_sort(lexeme.sort, Sort::Semicolon) {
-            return len;
-        }
-    }
-    len
-}
 
 // The statement of a piece, or its fault with the number of the statement.
 pub fn read_piece(

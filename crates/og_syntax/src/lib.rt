@@ -33,7 +33,7 @@ pub use lexeme::{Lexeme, Sort};
 pub use literals::literal;
 pub use queries::query;
 pub use refusal::Refusal;
-pub use spelling::{bytes_of, name, quoted, text};
+pub use spelling::{Unquoted, bytes_of, name, quoted, text};
 pub use step::{after, expect, one, same_sort, sees, sort_at};
 pub use tables::table_name;
 pub use tree::{

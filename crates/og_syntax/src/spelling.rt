@@ -9,8 +9,34 @@ use crate::refusal::Refusal;
 use crate::step::one;
 use og_base::NoMemory;
 use og_value::{Name, NameRefusal, Text, TextRefusal};
-use sqlite_items::Items;
 use std::alloc::Global;
+use std::borrow::CowSlice;
+use std::marker::Model;
+
+/// What stands between the quotes of a text, seen as its bytes: those of the script, or new ones where a
+/// quote stands among them.
+#[derive(Drop)]
+pub struct Unquoted<'a> {
+    bytes: CowSlice<'a, u8>,
+}
+
+impl<'a> Model for Unquoted<'a> {
+    ghost use Rattle.std.specs.Prelude.{List, ℕ};
+    ghost use Rattle.std.specs.Cow.{cow_slice_items};
+
+    ghost Value = { List ℕ };
+
+    ghost view = { λ c. cow_slice_items c.bytes };
+}
+
+impl<'a> Unquoted<'a> {
+    /// The bytes.
+    pub fn as_slice(&self) -> &[u8]
+        ensures { result.now ≡ self.now }
+    {
+        self.bytes.as_slice()
+    }
+}
 
 /// The bytes of the lexeme.
 #[tactic(auto, unfolding(crate::specs::Spans::spelling))]
@@ -43,16 +69,31 @@ fn front_bytes(bytes: &[u8], count: usize) -> &[u8]
 
 // What stands between the quotes of the lexeme.
 #[tactic(auto, unfolding(crate::specs::Spans::content))]
-fn content(alloc: Global, script: &[u8], lexeme: Lexeme) -> Result<Vec<u8>, NoMemory>
-    ensures { IfOk result (λ z. z.items ≡ spans.content script.now lexeme) }
+fn content(alloc: Global, script: &[u8], lexeme: Lexeme) -> Result<Unquoted<'_>, NoMemory>
+    ensures { IfOk result (λ z. z ≡ spans.content script.now lexeme) }
 {
     let bytes = bytes_of(script, lexeme);
     let inside = front_bytes(after_bytes(bytes, 1), bytes.len().saturating_sub(2));
     singled(alloc, inside)
 }
 
-// The bytes with the second quote of each pair of quotes left out.
-fn singled(alloc: Global, bytes: &[u8]) -> Result<Vec<u8>, NoMemory>
+// The bytes with the second quote of each pair of quotes left out. They are copied where a quote stands
+// among them alone.
+fn singled(alloc: Global, bytes: &[u8]) -> Result<Unquoted<'_>, NoMemory>
+    ensures { IfOk result (λ z. z ≡ spans.singled false bytes.now) }
+{
+    if !bytes.contains(&b'\'') {
+        return Ok(Unquoted {
+            bytes: CowSlice::Borrowed(bytes),
+        });
+    }
+    Ok(Unquoted {
+        bytes: CowSlice::Owned(copied(alloc, bytes)?),
+    })
+}
+
+// A copy of the bytes with the second quote of each pair of quotes left out.
+fn copied(alloc: Global, bytes: &[u8]) -> Result<Vec<u8>, NoMemory>
     ensures { IfOk result (λ z. z.items ≡ spans.singled false bytes.now) }
 {
     let mut out = Vec::new(alloc);
@@ -87,15 +128,15 @@ pub fn name<'a>(
 
 /// What stands between the quotes that the lexemes begin with, each doubled quote made single.
 #[tactic(auto, unfolding(crate::specs::Reader::quoted))]
-pub fn quoted<'a>(
+pub fn quoted<'a, 's>(
     alloc: Global,
-    script: &[u8],
+    script: &'s [u8],
     lexemes: &'a [Lexeme],
-) -> Result<(Items<u8>, &'a [Lexeme]), Refusal>
+) -> Result<(Unquoted<'s>, &'a [Lexeme]), Refusal>
     ensures { Gives result (spec.quoted script.now lexemes.now) }
 {
     let (lexeme, rest) = one(lexemes, Sort::Quoted)?;
-    Ok((Items::from_vec(content(alloc, script, lexeme)?), rest))
+    Ok((content(alloc, script, lexeme)?, rest))
 }
 
 /// The text that the lexemes begin with, and the lexemes after it.
