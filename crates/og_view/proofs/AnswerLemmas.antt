@@ -31,7 +31,7 @@ use Rattle.og_view.specs.Bases.{AreHeld}
 module _ (schemas : Schemas) (named : Relations) (held : AreHeld schemas named)
     (on_a_day : (columns : List Column) (rel : Relation) → HaveKinds columns rel → (d : ℤ) → All (IsFitFixed columns) (relation_at row_order row_at rel d)) (d : ℤ) where
   -- the rows of a day of a table fit its columns
-  named_fit : (table : From1) → IsAsNamed schemas table → FitRows table.schema (rows_at named d table.name)
+  pub named_fit : (table : From1) → IsAsNamed schemas table → FitRows table.schema (rows_at named d table.name)
   named_fit table is =
       let there = held table.name table.schema is in
       subst (λ o. FitRows table.schema (rows_or_none o d)) (sym there.1) (on_a_day table.schema there.0 there.2 d)

@@ -17,7 +17,7 @@ use Rattle.og_query.specs.declared.query.From1.{From1}
 use Rattle.og_query.proofs.ProductLemmas.{list_any-combinations}
 use Rattle.og_query.proofs.QueryLemmas.{rows_ordered}
 use Rattle.og_plan.proofs.MeaningParts.{and_true}
-use Rattle.og_view.specs.Rows.{grown, rows_over, steps}
+use Rattle.og_view.specs.Rows.{IsAlike, grown, rows_over, steps}
 
 -- or goes in any order
 or_across : (a b c d : Bool) → ((a || b) || (c || d)) ≡ ((a || c) || (b || d))
@@ -72,10 +72,6 @@ any_all_grown p front (rows ∷ lists) (new ∷ news) =
     ∙ any_all_grown p both lists news
     ∙ ap (λ b. b || more) (ap (λ ls. list_any p (combinations ls)) (append_assoc front ((rows ++ new) ∷ []) lists) ∙ any_grown lists p front rows new)
     ∙ or_assoc (list_any p (combinations (front ++ rows ∷ lists))) (list_any p (combinations (front ++ new ∷ lists))) more
-
--- no test tells the rows of the one list from those of the other
-abbrev pub IsAlike : List Fixed → List Fixed → Type 0
-IsAlike xs ys = (p : Fixed → Bool) → list_any p xs ≡ list_any p ys
 
 -- list by list
 abbrev pub AreAlike : List (List Fixed) → List (List Fixed) → Type 0

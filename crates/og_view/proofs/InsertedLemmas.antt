@@ -1,37 +1,34 @@
 -- The query of a live result after an insertion: its rows are those before and those that its cores have more, and so is its size.
-use Rattle.std.proofs.Common.{◌≡◌, ◌≤◌, ◌++◌, ◌+◌, ◌||◌, ℕ, ℤ, Bool, true, false, List, [], ◌∷◌, length, map, fold, refl, sym, ap, ap₂, ◌∙◌, arith}
+use Rattle.std.proofs.Common.{subst, ◌≡◌, ◌≤◌, ◌++◌, ◌+◌, ◌||◌, ℕ, ℤ, Bool, true, false, List, [], ◌∷◌, length, map, fold, refl, sym, ap, ap₂, ◌∙◌, arith}
 use Rattle.std.specs.List.{All, AllByRecursion, flat_map, list_any, sum_by}
-use Rattle.std.proofs.lemmas.List.{length-append}
+use Rattle.std.proofs.lemmas.List.{append-nil, length-append}
 use Rattle.std.proofs.lemmas.List.Elements.{All-cons, All-map, All-weaker, recursion_from_All}
 use Rattle.std.proofs.lemmas.List.Folds.{list_any-append}
 use Rattle.std.proofs.lemmas.List.Sums.{sum_by-cons}
+use Rattle.og_base.specs.Calendar.{IsRefDay}
 use Rattle.og_base.specs.Set.{set_of}
-use Rattle.og_base.proofs.SetLemmas.{set_of-append_right}
+use Rattle.og_base.proofs.SetLemmas.{set_of-append_right, set_of-rising}
 use Rattle.og_base.proofs.SetMembers.{list_any-set_of}
 use Rattle.og_value.specs.Order.{row_order}
 use Rattle.og_value.specs.Values.{row_at}
-use Rattle.og_value.specs.declared.schema.Column.{Column}
 use Rattle.og_rel.proofs.AlgebraLemmas.{same_set_by_tests}
 use Rattle.og_rel.proofs.PresentLemmas.{relation_at-append}
-use Rattle.og_query.specs.Fits.{Schemas, IsFitCore, IsFitRest, IsFitQuery}
+use Rattle.og_query.specs.Fits.{Known, Schemas, tables_of, IsFitCore, IsFitRest, IsFitQuery}
 use Rattle.og_query.specs.Queries.{Fixed, Named, core_rows, ordinary_query}
 use Rattle.og_query.specs.Sizes.{Sizes, combined_size, core_size, query_size}
 use Rattle.og_query.specs.declared.query.Core.{Core}
 use Rattle.og_query.specs.declared.query.Query.{Query}
 use Rattle.og_query.specs.declared.query.Rest.{Rest}
-use Rattle.og_query.proofs.QueryLemmas.{rows_ordered}
+use Rattle.og_query.proofs.QueryLemmas.{answer_rises, rows_ordered}
 use Rattle.og_exec.specs.Tables.{rows_at, rows_on, sizes_of}
-use Rattle.og_db.specs.Database.{Relation, IsTableOf}
-use Rattle.og_db.specs.Held.{Held, changed_at, known_of, rows_of}
-use Rattle.og_db.proofs.WorldLemmas.{known_of-changed_at}
-use Rattle.og_view.specs.Placed.{cores_of, gets, more_rows, more_size}
-use Rattle.og_view.specs.Rows.{rows_over, steps}
+use Rattle.og_db.specs.Database.{Relation}
+use Rattle.og_db.specs.Held.{Held, rows_of}
+use Rattle.og_view.specs.Placed.{AreGrown, AreLonger, cores_of, gets, more_rows, more_size}
+use Rattle.og_view.specs.Rows.{IsAlike, rows_over, steps}
 use Rattle.og_view.specs.Sizes.{steps_size}
 use Rattle.og_view.specs.Views.{IsLiveQuery, IsLiveRest}
-use Rattle.og_view.proofs.GrownLemmas.{IsAlike, core_rows-inserted}
+use Rattle.og_view.proofs.GrownLemmas.{core_rows-inserted}
 use Rattle.og_view.proofs.LiveLemmas.{ordinary_query-live}
-use Rattle.og_view.proofs.PlacedLemmas.{alike-after, size-after}
-use Rattle.og_view.proofs.MoreLemmas.{table_there}
 use Rattle.og_view.proofs.SizeLemmas.{core_size-inserted}
 
 -- or goes in any order
@@ -46,6 +43,10 @@ pub cores_fit : (schemas : Schemas) (query : Query) → IsFitQuery schemas query
 cores_fit schemas query fit =
     All-cons (IsFitCore schemas) query.first (map (λ rest. rest.core) query.rest) fit.first
     (All-map (IsFitCore schemas) (λ rest. rest.core) query.rest (All-weaker (IsFitRest schemas query.first) (λ rest. IsFitCore schemas rest.core) (λ rest f. f.core) query.rest fit.rest))
+
+-- and do so over other names that are known alike
+pub cores_fit_alike : (old new : Known) (query : Query) → ((other : List ℕ) → new other ≡ old other) → IsFitQuery (tables_of old) query → All (IsFitCore (tables_of new)) (cores_of query)
+cores_fit_alike old new query same fit = cores_fit (tables_of new) query (subst (λ known. IsFitQuery (tables_of known) query) (λ i other. sym (same other) i) fit)
 
 module _ (d : ℤ) (old new more : Named) (inserted : (name : List ℕ) → IsAlike (new name) (old name ++ more name)) where
   -- the rows that a core has more
@@ -123,29 +124,54 @@ module _ (old new more : Sizes) (inserted : (name : List ℕ) → new name ≡ o
           ∙ ap (λ n. fold (λ size rest. combined_size rest.op size (core_size old rest.core)) (combined_size rest.op m (core_size old rest.core)) rests + n)
           (assoc k (more_sizes rest.core) (sum_by more_sizes cores) ∙ ap (λ n. k + n) (sym (sum_by-cons more_sizes rest.core cores)))
 
-module _ (query : Query) (before : List (Held Relation)) (name : List ℕ) (columns : List Column) (is : IsTableOf columns before name) (new : Relation)
-    (after : List (Held Relation)) (changed : after ≡ changed_at name (λ rel. rel ++ new) before) where
-  -- the names are what they were
-  pub known-grown : known_of before ≡ known_of after
-  known-grown = λ i other. sym (ap (λ db. known_of db other) changed ∙ known_of-changed_at name (λ rel. rel ++ new) before other) i
+module _ (query : Query) (live : IsLiveQuery query) (before after : List (Held Relation)) (name : List ℕ) (new : Relation) where
+  -- the answer after it is that before with the rows that the cores have more
+  pub answer-grown : AreGrown (rows_of after) (rows_of before) name new → (d : ℤ) → IsRefDay d
+      → ordinary_query d (rows_at (rows_of after) d) query ≡ set_of row_order (ordinary_query d (rows_at (rows_of before) d) query ++ flat_map (more_rows d (rows_of before) name new) (cores_of query))
+  answer-grown grows d day = query_rows-inserted d (rows_at (rows_of before) d) (rows_at (rows_of after) d) (λ other. rows_on (gets name new other) d) (grows d day) query live
 
-  -- the result with the rows that the cores have more is the answer after it
-  pub rows-grown : (result more : Relation) (d : ℤ) → IsLiveQuery query → rows_on result d ≡ ordinary_query d (rows_at (rows_of before) d) query
+  -- or of a relation of them
+  pub answer-more : AreGrown (rows_of after) (rows_of before) name new → (more : Relation) (d : ℤ) → IsRefDay d
+      → rows_on more d ≡ set_of row_order (flat_map (more_rows d (rows_of before) name new) (cores_of query))
+      → ordinary_query d (rows_at (rows_of after) d) query ≡ set_of row_order (ordinary_query d (rows_at (rows_of before) d) query ++ rows_on more d)
+  answer-more grows more d day add =
+      answer-grown grows d day
+      ∙ sym (set_of-append_right rows_ordered (ordinary_query d (rows_at (rows_of before) d) query) (flat_map (more_rows d (rows_of before) name new) (cores_of query)))
+      ∙ sym (ap (λ rows. set_of row_order (ordinary_query d (rows_at (rows_of before) d) query ++ rows)) add)
+
+  -- and so of the result and of that relation
+  pub answer-extended : AreGrown (rows_of after) (rows_of before) name new → (result more : Relation) (d : ℤ) → IsRefDay d → rows_on result d ≡ ordinary_query d (rows_at (rows_of before) d) query
+      → rows_on more d ≡ set_of row_order (flat_map (more_rows d (rows_of before) name new) (cores_of query))
+      → ordinary_query d (rows_at (rows_of after) d) query ≡ set_of row_order (rows_on result d ++ rows_on more d)
+  answer-extended grows result more d day old add = answer-more grows more d day add ∙ ap (λ rows. set_of row_order (rows ++ rows_on more d)) (sym old)
+
+  -- the result with those rows is the answer after it
+  pub rows-grown : AreGrown (rows_of after) (rows_of before) name new → (result more : Relation) (d : ℤ) → IsRefDay d → rows_on result d ≡ ordinary_query d (rows_at (rows_of before) d) query
       → rows_on more d ≡ set_of row_order (flat_map (more_rows d (rows_of before) name new) (cores_of query))
       → rows_on (result ++ more) d ≡ ordinary_query d (rows_at (rows_of after) d) query
-  rows-grown result more d live old add =
-      let there = table_there before name columns is in
-      relation_at-append rows_ordered row_at result more d
-      ∙ ap₂ (λ xs ys. set_of row_order (xs ++ ys)) old add
-      ∙ set_of-append_right rows_ordered (ordinary_query d (rows_at (rows_of before) d) query) (flat_map (more_rows d (rows_of before) name new) (cores_of query))
-      ∙ sym (query_rows-inserted d (rows_at (rows_of before) d) (rows_at (rows_of after) d) (λ other. rows_on (gets name new other) d)
-      (λ other p. ap (λ db. list_any p (rows_at (rows_of db) d other)) changed ∙ alike-after name new before there.0 there.1 d other p) query live)
+  rows-grown grows result more d day old add = relation_at-append rows_ordered row_at result more d ∙ sym (answer-extended grows result more d day old add)
 
   -- and is no longer than the size then
-  pub size-grown : (result more : Relation) → IsLiveQuery query → length result ≤ query_size (sizes_of (rows_of before)) query
+  pub size-grown : AreLonger (rows_of after) (rows_of before) name new → (result more : Relation) → length result ≤ query_size (sizes_of (rows_of before)) query
       → length more ≤ sum_by (more_size (rows_of before) name new) (cores_of query) → length (result ++ more) ≤ query_size (sizes_of (rows_of after)) query
-  size-grown result more live old add =
-      let there = table_there before name columns is in
-      let sizes = query_size-inserted (sizes_of (rows_of before)) (sizes_of (rows_of after)) (λ other. length (gets name new other))
-      (λ other. ap (λ db. sizes_of (rows_of db) other) changed ∙ size-after name new before there.0 there.1 other) query live in
+  size-grown longer result more old add =
+      let sizes = query_size-inserted (sizes_of (rows_of before)) (sizes_of (rows_of after)) (λ other. length (gets name new other)) longer query live in
       omega (arith, length-append result more, old, add, sizes)
+
+  -- where the cores have no more rows the answer is what it was
+  pub answer-untouched : AreGrown (rows_of after) (rows_of before) name new → (d : ℤ) → IsRefDay d → [] ≡ set_of row_order (flat_map (more_rows d (rows_of before) name new) (cores_of query))
+      → ordinary_query d (rows_at (rows_of after) d) query ≡ ordinary_query d (rows_at (rows_of before) d) query
+  answer-untouched grows d day none =
+      let answer = ordinary_query d (rows_at (rows_of before) d) query in
+      answer-grown grows d day
+      ∙ sym (set_of-append_right rows_ordered answer (flat_map (more_rows d (rows_of before) name new) (cores_of query)))
+      ∙ ap (λ rows. set_of row_order (answer ++ rows)) (sym none)
+      ∙ ap (set_of row_order) (append-nil answer)
+      ∙ set_of-rising rows_ordered answer (answer_rises d (rows_at (rows_of before) d) query)
+
+  -- so a result stays, where what the cores have more is a relation without rows
+  pub result-untouched : AreGrown (rows_of after) (rows_of before) name new → (result more : Relation) (cores : List Core) (d : ℤ) → IsRefDay d → cores ≡ cores_of query → more ≡ []
+      → rows_on more d ≡ set_of row_order (flat_map (more_rows d (rows_of before) name new) cores) → rows_on result d ≡ ordinary_query d (rows_at (rows_of after) d) query
+      → rows_on result d ≡ ordinary_query d (rows_at (rows_of before) d) query
+  result-untouched grows result more cores d day all none add is =
+      is ∙ answer-untouched grows d day (ap (λ rel. rows_on rel d) (sym none) ∙ add ∙ ap (λ cs. set_of row_order (flat_map (more_rows d (rows_of before) name new) cs)) all)

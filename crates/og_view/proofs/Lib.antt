@@ -1,12 +1,15 @@
+pub mod AgainLemmas
 pub mod AnswerLemmas
 pub mod BaseLemmas
-pub mod ChoiceLemmas
 pub mod GrownLemmas
 pub mod InsertedLemmas
 pub mod LiveLemmas
 pub mod MoreLemmas
 pub mod NarrowedLemmas
 pub mod PlacedLemmas
+pub mod PutLemmas
+pub mod RederivedLemmas
+pub mod SieveLemmas
 pub mod SizeLemmas
+pub mod TakenLemmas
 pub mod ViewLemmas
-pub mod WidenedLemmas

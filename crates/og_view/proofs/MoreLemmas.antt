@@ -1,11 +1,12 @@
 -- What a core has more at one place, where a name gets new rows: the rows over the places that are so read, and how many.
 use Rattle.std.proofs.Common.{◌≡◌, ◌≤◌, ◌<◌, ◌++◌, ◌+◌, ℕ, ℤ, zero, suc, nat_lt, Bool, true, false, List, [], ◌∷◌, Option, Some, None, length, filter, map, slice_get, slice_index_or, take, if◌then◌else◌, refl, sym, ap, ap₂, ◌∙◌, subst, arith}
 use Rattle.std.specs.Cmp.Lexicographic.{same_text}
-use Rattle.std.specs.List.{AllByRecursion, flat_map, list_any}
+use Rattle.std.specs.List.{AllByRecursion, flat_map, list_any, sum_by}
 use Rattle.std.specs.Option.{option_map}
 use Rattle.std.specs.Str.{bytes_eq}
 use Rattle.std.proofs.lemmas.Bool.{ltb-false}
 use Rattle.std.proofs.lemmas.List.{append_assoc, append-nil, flat_map_more, take_all, take_more}
+use Rattle.std.proofs.lemmas.List.Sums.{sum_by_push}
 use Rattle.std.proofs.lemmas.Option.{get_or_from_slice_get, same_Some}
 use Rattle.og_base.specs.Set.{set_of}
 use Rattle.og_base.proofs.SetLemmas.{set_of-append, set_of-set_of}
@@ -24,14 +25,13 @@ use Rattle.og_query.specs.declared.query.From1.{From1}
 use Rattle.og_query.proofs.QueryLemmas.{rows_ordered}
 use Rattle.og_exec.specs.Tables.{Relations, rows_at, rows_on, rows_or_none, size_or_none, sizes_of}
 use Rattle.og_db.specs.Database.{Relation, HaveKinds, IsTableOf}
-use Rattle.og_db.specs.Held.{Held, changed_at, described, found, known_of, rows_of}
-use Rattle.og_db.proofs.WorldLemmas.{known_of-changed_at}
+use Rattle.og_db.specs.Held.{Held, described, found, known_of, rows_of}
 use Rattle.og_view.specs.Bases.{AreHeld}
 use Rattle.og_view.specs.Placed.{beside, columns_at, first_more_size, gets, more_lists, more_size, place_rels, place_schemas, placed_core, placed_query}
-use Rattle.og_view.specs.Rows.{rows_over, steps}
+use Rattle.og_view.specs.Rows.{IsAlike, rows_over, steps}
 use Rattle.og_view.specs.Sizes.{first_steps_size, product, steps_size}
 use Rattle.og_view.proofs.BaseLemmas.{tables_held}
-use Rattle.og_view.proofs.GrownLemmas.{AreAlike, IsAlike, core_rows-over, rows_over-all_alike}
+use Rattle.og_view.proofs.GrownLemmas.{AreAlike, core_rows-over, rows_over-all_alike}
 use Rattle.og_view.proofs.PlacedLemmas.{place_reads, sided}
 use Rattle.og_view.proofs.SizeLemmas.{core_size-product}
 
@@ -73,9 +73,18 @@ module _ {X : Type 0} (rows_for : X → List Fixed) where
       ∙ set_of-append rows_ordered (start ++ flat_map rows_for (take k xs)) (rows_for one)
       ∙ ap (set_of row_order) (flat_map_more rows_for start (take k xs) one ∙ ap (λ ys. start ++ flat_map rows_for ys) (sym (take_more xs k x within)))
 
+  -- the same, where the one more is told
+  pub gathered_next : (start before now : List Fixed) (xs : List X) (k : ℕ) (x : X) → k < length xs → x ≡ slice_index_or xs k x → before ≡ set_of row_order (start ++ flat_map rows_for (take k xs))
+      → now ≡ set_of row_order (before ++ rows_for x) → now ≡ set_of row_order (start ++ flat_map rows_for (take (k + 1) xs))
+  gathered_next start before now xs k x within is so_far step = gathered_more start before now xs k x within so_far (step ∙ ap (λ one. set_of row_order (before ++ rows_for one)) is)
+
   -- and of all
   pub gathered_all : (start now : List Fixed) (xs : List X) (k : ℕ) → length xs ≤ k → now ≡ set_of row_order (start ++ flat_map rows_for (take k xs)) → now ≡ set_of row_order (start ++ flat_map rows_for xs)
   gathered_all start now xs k all so_far = so_far ∙ ap (λ ys. set_of row_order (start ++ flat_map rows_for ys)) (take_all k xs all)
+
+-- the sum over the first and one more
+pub sum_more : {X : Type 0} (size : X → ℕ) (xs : List X) (i : ℕ) (x : X) → i < length xs → x ≡ slice_index_or xs i x → sum_by size (take (i + 1) xs) ≡ sum_by size (take i xs) + size x
+sum_more size xs i x within is = ap (sum_by size) (take_more xs i x within ∙ ap (λ one. take i xs ++ one ∷ []) (sym is)) ∙ sum_by_push size (take i xs) x
 
 -- lists are alike themselves
 alike-itself : (lists : List (List Fixed)) → AreAlike lists lists
@@ -115,20 +124,33 @@ module _ (d : ℤ) (before : Relations) (name : List ℕ) (new : Relation) where
         ∙ ap (rows_over d core) (sym (step_at old_rows new_rows place [] core.tables within))
 
   -- no combinations where the place gets nothing
-  none_stepped : (place : ℕ) (tables : List From1) (table : From1) → place < length tables → bytes_eq name (slice_index_or tables place table).name ≡ false
+  none_stepped : (place : ℕ) (tables : List From1) (table : From1) → place < length tables → new_rows (slice_index_or tables place table) ≡ []
       → combinations (stepped old_rows new_rows place tables) ≡ []
-  none_stepped zero [] table within off = absurd (omega (arith, within))
-  none_stepped (suc place) [] table within off = absurd (omega (arith, within))
-  none_stepped zero (one ∷ tables) table within off = ap (λ b. combinations (rows_on (if b then new else []) d ∷ map old_rows tables)) off
-  none_stepped (suc place) (one ∷ tables) table within off =
-      ap (λ rest. flat_map (λ row. map (λ more. row ++ more) rest) (old_rows one ++ new_rows one)) (none_stepped place tables table (omega (arith, within)) off) ∙ none_each (old_rows one ++ new_rows one)
+  none_stepped zero [] table within none = absurd (omega (arith, within))
+  none_stepped (suc place) [] table within none = absurd (omega (arith, within))
+  none_stepped zero (one ∷ tables) table within none = ap (λ rows. combinations (rows ∷ map old_rows tables)) none
+  none_stepped (suc place) (one ∷ tables) table within none =
+      ap (λ rest. flat_map (λ row. map (λ more. row ++ more) rest) (old_rows one ++ new_rows one)) (none_stepped place tables table (omega (arith, within)) none) ∙ none_each (old_rows one ++ new_rows one)
 
   -- and no rows
+  no_rows_over : (core : Core) (place : ℕ) (table : From1) → place < length core.tables → new_rows (slice_index_or core.tables place table) ≡ []
+      → rows_over d core (slice_index_or (more_lists d before name new core) place []) ≡ []
+  no_rows_over core place table within none =
+      ap (rows_over d core) (step_at old_rows new_rows place [] core.tables within)
+      ∙ ap (λ all. set_of row_order (map (image d core.items) (filter (λ row. truth d row core.cond) all))) (none_stepped place core.tables table within none)
+
+  -- so where the table there is another
   pub no_rows_at_place : (core : Core) (place : ℕ) (table : From1) → place < length core.tables → bytes_eq name (slice_index_or core.tables place table).name ≡ false
       → rows_over d core (slice_index_or (more_lists d before name new core) place []) ≡ []
-  no_rows_at_place core place table within off =
-      ap (rows_over d core) (step_at old_rows new_rows place [] core.tables within)
-      ∙ ap (λ all. set_of row_order (map (image d core.items) (filter (λ row. truth d row core.cond) all))) (none_stepped place core.tables table within off)
+  no_rows_at_place core place table within off = no_rows_over core place table within (ap (λ b. rows_on (if b then new else []) d) off)
+
+  -- and where there are no new rows
+  pub no_rows_of_none : (core : Core) (place : ℕ) (table : From1) → place < length core.tables → new ≡ [] → rows_over d core (slice_index_or (more_lists d before name new core) place []) ≡ []
+  no_rows_of_none core place table within none = no_rows_over core place table within (at (bytes_eq name (slice_index_or core.tables place table).name))
+    where
+      at : (b : Bool) → rows_on (if b then new else []) d ≡ []
+      at true = ap (λ rel. rows_on rel d) none
+      at false = refl
 
 module _ (old more : From1 → ℕ) where
   -- the numbers at one place
@@ -215,7 +237,7 @@ module _ (before : List (Held Relation)) (name : List ℕ) (columns : List Colum
       at (Some h) here is = (h.rows, ap (option_map (λ h. h.rows)) here)
       at None here is = cc is
 
-  module _ (new : Relation) (fit : HaveKinds columns new) (after : List (Held Relation)) (changed : after ≡ changed_at name (λ rel. rel ++ new) before) where
+  module _ (new : Relation) (fit : HaveKinds columns new) (after : List (Held Relation)) (same_known : (other : List ℕ) → known_of after other ≡ known_of before other) where
     -- the tables that are known
     abbrev schemas : Schemas
     schemas = tables_of (known_of before)
@@ -238,7 +260,7 @@ module _ (before : List (Held Relation)) (name : List ℕ) (columns : List Colum
           → (rel : Relation) × ((if b then rows_of after table.name else if c then rows_of before table.name else Some new) ≡ Some rel) × HaveKinds columns rel
       side k table columns there same true c early late =
           let known : tables_of (known_of after) table.name ≡ Some columns =
-          ap table_columns_of (ap (λ db. known_of db table.name) changed ∙ known_of-changed_at name (λ rel. rel ++ new) before table.name) ∙ named_at tables k table named there ∙ ap Some same in
+          ap table_columns_of (same_known table.name) ∙ named_at tables k table named there ∙ ap Some same in
           tables_held (known_of after) (rows_of after) held_after table.name columns known
       side k table columns there same false true early late = tables_held (known_of before) (rows_of before) held_before table.name columns (named_at tables k table named there ∙ ap Some same)
       side k table columns there same false false early late =

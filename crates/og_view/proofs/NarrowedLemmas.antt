@@ -44,7 +44,7 @@ behind row rest width n is =
     ∙ ap (λ k. slice_index_or rest k no_value) (less_more width n)
 
 -- three truths in another order
-and_swap : (a b c : Bool) → (a && (b && c)) ≡ (b && (a && c))
+pub and_swap : (a b c : Bool) → (a && (b && c)) ≡ (b && (a && c))
 and_swap true b c = refl
 and_swap false true c = refl
 and_swap false false c = refl

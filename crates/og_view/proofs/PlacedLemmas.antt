@@ -20,8 +20,8 @@ use Rattle.og_query.proofs.QueryLemmas.{rows_ordered}
 use Rattle.og_exec.specs.Tables.{Relations, rows_at, rows_on, rows_or_none, size_or_none, sizes_of}
 use Rattle.og_db.specs.Database.{Relation}
 use Rattle.og_db.specs.Held.{Held, changed_at, found, made_of, rows_of}
-use Rattle.og_view.specs.Placed.{beside, columns_at, gets, letters, place_rels, place_schemas, placed, placed_from, placed_core, placed_query}
-use Rattle.og_view.proofs.GrownLemmas.{IsAlike}
+use Rattle.og_view.specs.Placed.{AreGrown, AreLonger, beside, columns_at, gets, letters, place_rels, place_schemas, placed, placed_from, placed_core, placed_query}
+use Rattle.og_view.specs.Rows.{IsAlike}
 
 -- one more letter
 pub letters-push : (k : ℕ) → letters k ++ 112 ∷ [] ≡ 112 ∷ letters k
@@ -47,15 +47,15 @@ letters_lower zero = refl
 letters_lower (suc k) = ap (λ rest. 112 ∷ rest) (letters_lower k)
 
 -- a number and nothing
-and_nothing : (k : ℕ) → k ≡ k + 0
+pub and_nothing : (k : ℕ) → k ≡ k + 0
 and_nothing k = omega arith
 
 -- one more in either place
-one_across : (k m : ℕ) → suc k + m ≡ k + suc m
+pub one_across : (k m : ℕ) → suc k + m ≡ k + suc m
 one_across k m = omega arith
 
 -- nothing and a number
-nothing_and : (k : ℕ) → 0 + k ≡ k
+pub nothing_and : (k : ℕ) → 0 + k ≡ k
 nothing_and k = omega arith
 
 -- numbers that are each one more
@@ -106,12 +106,12 @@ placed_fits schemas core fit = record {
 
 module _ {A : Type 0} where
   -- what is made of each place
-  abbrev by_place : (ℕ → A) → List From1 → List A
+  abbrev pub by_place : (ℕ → A) → List From1 → List A
   by_place make [] = []
   by_place make (table ∷ tables) = make 0 ∷ by_place (λ k. make (suc k)) tables
 
   -- what is made of each name of a place
-  placed-by_place : (make : List ℕ → A) (k : ℕ) (tables : List From1) → map (λ table. make table.name) (placed_from k tables) ≡ by_place (λ j. make (112 ∷ letters (k + j))) tables
+  pub placed-by_place : (make : List ℕ → A) (k : ℕ) (tables : List From1) → map (λ table. make table.name) (placed_from k tables) ≡ by_place (λ j. make (112 ∷ letters (k + j))) tables
   placed-by_place make k [] = refl
   placed-by_place make k (table ∷ tables) =
       ap₂ (λ x xs. x ∷ xs) (ap (λ n. make (112 ∷ letters n)) (and_nothing k))
@@ -153,34 +153,43 @@ module _ {A : Type 0} where
         number : (k : ℕ) → length (letters (0 + k)) ≡ k
         number k = length-letters (0 + k) ∙ nothing_and k
 
+-- the rows of each name after one is changed
+pub rows_of-changed : {V : Type 0} (name : List ℕ) (g : V → V) (db : List (Held V)) (other : List ℕ) → rows_of (changed_at name g db) other ≡ option_map (λ rows. if bytes_eq name other then g rows else rows) (rows_of db other)
+rows_of-changed name g [] other = refl
+rows_of-changed name g (h ∷ hs) other = at (bytes_eq other h.name) refl (rows_of-changed name g hs other)
+  where
+    made : (b : Bool) → (if b then made_of g h else h).rows ≡ (if b then g h.rows else h.rows)
+    made true = refl
+    made false = refl
+
+    named : (b : Bool) → (if b then made_of g h else h).name ≡ h.name
+    named true = refl
+    named false = refl
+
+    at : (c : Bool) → bytes_eq other h.name ≡ c → rows_of (changed_at name g hs) other ≡ option_map (λ rows. if bytes_eq name other then g rows else rows) (rows_of hs other)
+        → rows_of (changed_at name g (h ∷ hs)) other ≡ option_map (λ rows. if bytes_eq name other then g rows else rows) (rows_of (h ∷ hs) other)
+    at true here rest =
+        ap (λ c. option_map (λ h. h.rows) (if c then Some (if bytes_eq name h.name then made_of g h else h) else found (changed_at name g hs) other)) (ap (bytes_eq other) (named (bytes_eq name h.name)) ∙ here)
+        ∙ ap Some (made (bytes_eq name h.name) ∙ ap (λ other. if bytes_eq name other then g h.rows else h.rows) (sym (same_text other h.name (sym here))))
+        ∙ sym (ap (λ c. option_map (λ rows. if bytes_eq name other then g rows else rows) (option_map (λ h. h.rows) (if c then Some h else found hs other))) here)
+    at false here rest =
+        ap (λ c. option_map (λ h. h.rows) (if c then Some (if bytes_eq name h.name then made_of g h else h) else found (changed_at name g hs) other)) (ap (bytes_eq other) (named (bytes_eq name h.name)) ∙ here)
+        ∙ rest
+        ∙ sym (ap (λ c. option_map (λ rows. if bytes_eq name other then g rows else rows) (option_map (λ h. h.rows) (if c then Some h else found hs other))) here)
+
 module _ (name : List ℕ) (new : Relation) (before : List (Held Relation)) (rel : Relation) (there : rows_of before name ≡ Some rel) where
   -- the names after one gets new rows
   abbrev pub after : List (Held Relation)
   after = changed_at name (λ rel. rel ++ new) before
 
   -- the relation of each name then
-  rows_of-after : (db : List (Held Relation)) (other : List ℕ) → rows_of (changed_at name (λ rel. rel ++ new) db) other ≡ option_map (λ rel. rel ++ gets name new other) (rows_of db other)
-  rows_of-after [] other = refl
-  rows_of-after (h ∷ hs) other = at (bytes_eq other h.name) refl (rows_of-after hs other)
+  rows_of-after : (other : List ℕ) → rows_of after other ≡ option_map (λ rel. rel ++ gets name new other) (rows_of before other)
+  rows_of-after other = rows_of-changed name (λ rel. rel ++ new) before other ∙ at (rows_of before other) (bytes_eq name other)
     where
-      grown : (b : Bool) → (if b then made_of (λ rel. rel ++ new) h else h).rows ≡ h.rows ++ (if b then new else [])
-      grown true = refl
-      grown false = sym (append-nil h.rows)
-
-      named : (b : Bool) → (if b then made_of (λ rel. rel ++ new) h else h).name ≡ h.name
-      named true = refl
-      named false = refl
-
-      at : (c : Bool) → bytes_eq other h.name ≡ c → rows_of (changed_at name (λ rel. rel ++ new) hs) other ≡ option_map (λ rel. rel ++ gets name new other) (rows_of hs other)
-          → rows_of (changed_at name (λ rel. rel ++ new) (h ∷ hs)) other ≡ option_map (λ rel. rel ++ gets name new other) (rows_of (h ∷ hs) other)
-      at true here rest =
-          ap (λ c. option_map (λ h. h.rows) (if c then Some (if bytes_eq name h.name then made_of (λ rel. rel ++ new) h else h) else found (changed_at name (λ rel. rel ++ new) hs) other)) (ap (bytes_eq other) (named (bytes_eq name h.name)) ∙ here)
-          ∙ ap Some (grown (bytes_eq name h.name) ∙ ap (λ other. h.rows ++ gets name new other) (sym (same_text other h.name (sym here))))
-          ∙ sym (ap (λ c. option_map (λ rel. rel ++ gets name new other) (option_map (λ h. h.rows) (if c then Some h else found hs other))) here)
-      at false here rest =
-          ap (λ c. option_map (λ h. h.rows) (if c then Some (if bytes_eq name h.name then made_of (λ rel. rel ++ new) h else h) else found (changed_at name (λ rel. rel ++ new) hs) other)) (ap (bytes_eq other) (named (bytes_eq name h.name)) ∙ here)
-          ∙ rest
-          ∙ sym (ap (λ c. option_map (λ rel. rel ++ gets name new other) (option_map (λ h. h.rows) (if c then Some h else found hs other))) here)
+      at : (o : Option Relation) (b : Bool) → option_map (λ rel. if b then rel ++ new else rel) o ≡ option_map (λ rel. rel ++ (if b then new else [])) o
+      at None b = refl
+      at (Some old) true = refl
+      at (Some old) false = ap Some (sym (append-nil old))
 
   -- a name that is not there gets nothing
   none_gets : (other : List ℕ) → rows_of before other ≡ None → gets name new other ≡ []
@@ -192,7 +201,7 @@ module _ (name : List ℕ) (new : Relation) (before : List (Held Relation)) (rel
 
   -- the rows of each name on a day
   pub alike-after : (d : ℤ) (other : List ℕ) → IsAlike (rows_at (rows_of after) d other) (rows_at (rows_of before) d other ++ rows_on (gets name new other) d)
-  alike-after d other p = ap (λ o. list_any p (rows_or_none o d)) (rows_of-after before other) ∙ at (rows_of before other) refl
+  alike-after d other p = ap (λ o. list_any p (rows_or_none o d)) (rows_of-after other) ∙ at (rows_of before other) refl
     where
       at : (o : Option Relation) → rows_of before other ≡ o → list_any p (rows_or_none (option_map (λ rel. rel ++ gets name new other) o) d) ≡ list_any p (rows_or_none o d ++ rows_on (gets name new other) d)
       at (Some old) is =
@@ -202,8 +211,15 @@ module _ (name : List ℕ) (new : Relation) (before : List (Held Relation)) (rel
 
   -- how many rows each name has
   pub size-after : (other : List ℕ) → sizes_of (rows_of after) other ≡ sizes_of (rows_of before) other + length (gets name new other)
-  size-after other = ap size_or_none (rows_of-after before other) ∙ at (rows_of before other) refl
+  size-after other = ap size_or_none (rows_of-after other) ∙ at (rows_of before other) refl
     where
       at : (o : Option Relation) → rows_of before other ≡ o → size_or_none (option_map (λ rel. rel ++ gets name new other) o) ≡ size_or_none o + length (gets name new other)
       at (Some old) is = length-append old (gets name new other)
       at None is = sym (ap (λ more. 0 + length more) (none_gets other is))
+
+  -- so each name has what it had and what it gets
+  pub grown-after : (now : List (Held Relation)) → now ≡ after → AreGrown (rows_of now) (rows_of before) name new
+  grown-after now changed d day other p = ap (λ db. list_any p (rows_at (rows_of db) d other)) changed ∙ alike-after d other p
+
+  pub longer-after : (now : List (Held Relation)) → now ≡ after → AreLonger (rows_of now) (rows_of before) name new
+  longer-after now changed other = ap (λ db. sizes_of (rows_of db) other) changed ∙ size-after other

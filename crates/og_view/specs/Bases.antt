@@ -4,7 +4,7 @@ use Rattle.og_value.specs.declared.kind.What.{What}
 use Rattle.og_value.specs.declared.schema.Column.{Column}
 use Rattle.og_query.specs.Fits.{Known, Schemas, tables_of}
 use Rattle.og_exec.specs.Tables.{Relations, IsThere}
-use Rattle.og_db.specs.Database.{Relation}
+use Rattle.og_db.specs.Database.{Relation, HaveKinds, IsTableOf}
 use Rattle.og_db.specs.Held.{Held, known_of, rows_of}
 
 -- each name that has columns has a relation, and its rows fit them
@@ -18,3 +18,7 @@ AreCopied known named bases = (name : List ℕ) (one : What × List Column) → 
 -- each table of the first is one of the second, with the same columns
 abbrev pub AreMore : List (Held Relation) → List (Held Relation) → Type 0
 AreMore old new = (name : List ℕ) (columns : List Column) → tables_of (known_of old) name ≡ Some columns → tables_of (known_of new) name ≡ Some columns
+
+-- the base of that name is a table whose columns the rows of the relation fit
+abbrev pub IsPut : List (Held Relation) → List ℕ → Relation → Type 0
+IsPut bases name rel = (columns : List Column) × IsTableOf columns bases name × HaveKinds columns rel

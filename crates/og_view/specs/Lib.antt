@@ -1,8 +1,8 @@
+pub mod Again
 pub mod Bases
-pub mod Choices
 pub mod Placed
 pub mod Plans
 pub mod Rows
+pub mod Sieves
 pub mod Sizes
 pub mod Views
-pub mod Widened

@@ -1,7 +1,8 @@
 -- Cores under names by place, so that each place of FROM can have a relation of its own, and what such places have while a table gets new rows.
-use Rattle.std.specs.Prelude.{ℕ, zero, suc, ℤ, nat_lt, List, [], ◌∷◌, Option, Some, None, length, map, slice_get, if◌then◌else◌}
+use Rattle.std.specs.Prelude.{◌≡◌, ◌+◌, ◌++◌, ℕ, zero, suc, ℤ, nat_lt, List, [], ◌∷◌, Option, Some, None, length, map, slice_get, if◌then◌else◌}
 use Rattle.std.specs.List.{flat_map}
 use Rattle.std.specs.Str.{bytes_eq}
+use Rattle.og_base.specs.Calendar.{IsRefDay}
 use Rattle.og_value.specs.declared.schema.Column.{Column}
 use Rattle.og_query.specs.Fits.{Schemas}
 use Rattle.og_query.specs.Queries.{Fixed}
@@ -10,7 +11,7 @@ use Rattle.og_query.specs.declared.query.From1.{From1}
 use Rattle.og_query.specs.declared.query.Query.{Query}
 use Rattle.og_exec.specs.Tables.{Relations, rows_at, rows_on, sizes_of}
 use Rattle.og_db.specs.Database.{Relation}
-use Rattle.og_view.specs.Rows.{rows_over, steps}
+use Rattle.og_view.specs.Rows.{IsAlike, rows_over, steps}
 use Rattle.og_view.specs.Sizes.{first_steps_size, steps_size}
 
 -- so many letters p
@@ -62,6 +63,14 @@ place_rels after before new place tables (letter ∷ name) = beside after before
 -- the rows that a name gets, where one name gets new rows
 abbrev pub gets : List ℕ → Relation → List ℕ → Relation
 gets name new other = if bytes_eq name other then new else []
+
+-- on each day each name has after a change what it had before, and what it gets
+abbrev pub AreGrown : Relations → Relations → List ℕ → Relation → Type 0
+AreGrown after before name new = (d : ℤ) → IsRefDay d → (other : List ℕ) → IsAlike (rows_at after d other) (rows_at before d other ++ rows_on (gets name new other) d)
+
+-- and it has so many rows
+abbrev pub AreLonger : Relations → Relations → List ℕ → Relation → Type 0
+AreLonger after before name new = (other : List ℕ) → sizes_of after other ≡ sizes_of before other + length (gets name new other)
 
 -- the lists of rows of one day that a core has more, place by place, where a name gets new rows
 abbrev pub more_lists : ℤ → Relations → List ℕ → Relation → Core → List (List (List Fixed))

@@ -2,7 +2,7 @@
 ghost use Rattle.std.specs.Prelude.{◌≡◌, Some, nat_lt, option_map, if◌then◌else◌};
 ghost use Rattle.og_db.specs.Held.{rows_of};
 
-use og_db::Db;
+use crate::put::Put;
 use og_query::From1;
 use og_rel::{Rel, Tables};
 use og_value::{Name, Row};
@@ -11,8 +11,8 @@ use og_value::{Name, Row};
 #[derive(Drop)]
 pub(crate) struct Change<'c> {
     pub(crate) name: &'c Name,
-    pub(crate) before: &'c Db,
-    pub(crate) after: &'c Db,
+    pub(crate) before: &'c Put<'c>,
+    pub(crate) after: &'c Put<'c>,
     pub(crate) new: &'c Rel<Row>,
 }
 

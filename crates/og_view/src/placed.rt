@@ -9,10 +9,10 @@ ghost use Rattle.og_value.specs.declared.schema.Column.{Column};
 ghost use Rattle.og_query.specs.Fits.{IsFitCore, IsFitQuery, Schemas, tables_of};
 ghost use Rattle.og_query.specs.Queries.{Fixed};
 ghost use Rattle.og_exec.specs.Tables.{rows_on};
-ghost use Rattle.og_db.specs.Held.{changed_at, known_of, rows_of};
+ghost use Rattle.og_db.specs.Held.{known_of, rows_of};
 ghost use Rattle.og_db.specs.Database.{HaveKinds, IsTableOf};
 ghost use Rattle.og_view.specs.Placed as spec;
-ghost use Rattle.og_view.specs.Placed.{cores_of, first_more_size, more_lists, more_rows, more_size, placed_query};
+ghost use Rattle.og_view.specs.Placed.{AreGrown, AreLonger, cores_of, first_more_size, more_lists, more_rows, more_size, placed_query};
 ghost use Rattle.og_view.specs.Rows.{rows_over};
 
 use crate::asked::Asked;
@@ -30,8 +30,8 @@ use std::thread::Threads;
 // A core, and with its plan the query of that core alone over names by place.
 #[derive(Drop)]
 pub(crate) struct Placed {
-    core: Core,
-    asked: Asked,
+    pub(crate) core: Core,
+    pub(crate) asked: Asked,
 }
 
 impl Model for Placed {
@@ -110,7 +110,7 @@ impl Placed {
         Ok(Placed { core, asked })
     }
 
-    // Appends the rows that the core has more by the new rows at one place, where the table there gets them.
+    // Appends the rows that the core has more by the new rows at one place, where the table there gets some.
     fn add_at<H: Threads + Sync, G: Gate + Sync>(
         &self,
         rt: &H,
@@ -125,15 +125,17 @@ impl Placed {
         requires most { workers ≤ max_workers }
         requires within { place < length self.now.tables }
         requires fits { IsFitCore (tables_of (known_of change.now.before.now)) self.now }
-        requires after { change.now.after.now ≡ changed_at change.now.name.now (λ rel. rel ++ change.now.new.now) change.now.before.now }
+        requires known { (other : List ℕ) → known_of change.now.after.now other ≡ known_of change.now.before.now other }
+        requires after { AreGrown (rows_of change.now.after.now) (rows_of change.now.before.now) change.now.name.now change.now.new.now }
         requires table { (columns : List Column) × IsTableOf columns change.now.before.now change.now.name.now × HaveKinds columns change.now.new.now }
         ensures law { OnOk result ((d : ℤ) → IsRefDay d → rows_on more.new d ≡ set_of row_order (rows_on more.old d
             ++ rows_over d self.now (slice_index_or (more_lists d (rows_of change.now.before.now) change.now.name.now change.now.new.now self.now) place []))) }
-        ensures size { OnOk result (length more.new + first_more_size place (rows_of change.now.before.now) change.now.name.now change.now.new.now self.now
+        ensures size { OnOk result (AreLonger (rows_of change.now.after.now) (rows_of change.now.before.now) change.now.name.now change.now.new.now →
+            length more.new + first_more_size place (rows_of change.now.before.now) change.now.name.now change.now.new.now self.now
             ≤ length more.old + first_more_size (place + 1) (rows_of change.now.before.now) change.now.name.now change.now.new.now self.now) }
     {
         let tables = self.core.tables.as_slice();
-        if *change.name != tables[place].name {
+        if change.new.len() == 0 || *change.name != tables[place].name {
             return Ok(());
         }
         change.before.rows_fit();
@@ -160,11 +162,13 @@ impl Placed {
         requires least { 1 ≤ workers }
         requires most { workers ≤ max_workers }
         requires fits { IsFitCore (tables_of (known_of change.now.before.now)) self.now }
-        requires after { change.now.after.now ≡ changed_at change.now.name.now (λ rel. rel ++ change.now.new.now) change.now.before.now }
+        requires known { (other : List ℕ) → known_of change.now.after.now other ≡ known_of change.now.before.now other }
+        requires after { AreGrown (rows_of change.now.after.now) (rows_of change.now.before.now) change.now.name.now change.now.new.now }
         requires table { (columns : List Column) × IsTableOf columns change.now.before.now change.now.name.now × HaveKinds columns change.now.new.now }
         ensures law { OnOk result ((d : ℤ) → IsRefDay d → rows_on more.new d ≡ set_of row_order (rows_on more.old d
             ++ more_rows d (rows_of change.now.before.now) change.now.name.now change.now.new.now self.now)) }
-        ensures size { OnOk result (length more.new ≤ length more.old + more_size (rows_of change.now.before.now) change.now.name.now change.now.new.now self.now) }
+        ensures size { OnOk result (AreLonger (rows_of change.now.after.now) (rows_of change.now.before.now) change.now.name.now change.now.new.now →
+            length more.new ≤ length more.old + more_size (rows_of change.now.before.now) change.now.name.now change.now.new.now self.now) }
     {
         'places: for place in 0..self.core.tables.len() {
             self.add_at(rt, alloc, change, place, workers, gate, more)?;
@@ -198,11 +202,13 @@ pub(crate) fn more_of<H: Threads + Sync, G: Gate + Sync>(
     requires least { 1 ≤ workers }
     requires most { workers ≤ max_workers }
     requires fits { All (IsFitCore (tables_of (known_of change.now.before.now))) cores.now }
-    requires after { change.now.after.now ≡ changed_at change.now.name.now (λ rel. rel ++ change.now.new.now) change.now.before.now }
+    requires known { (other : List ℕ) → known_of change.now.after.now other ≡ known_of change.now.before.now other }
+    requires after { AreGrown (rows_of change.now.after.now) (rows_of change.now.before.now) change.now.name.now change.now.new.now }
     requires table { (columns : List Column) × IsTableOf columns change.now.before.now change.now.name.now × HaveKinds columns change.now.new.now }
     ensures law { IfOk result (λ more. (d : ℤ) → IsRefDay d →
         rows_on more d ≡ set_of row_order (flat_map (more_rows d (rows_of change.now.before.now) change.now.name.now change.now.new.now) cores.now)) }
-    ensures size { IfOk result (λ more. length more ≤ sum_by (more_size (rows_of change.now.before.now) change.now.name.now change.now.new.now) cores.now) }
+    ensures size { IfOk result (λ more. AreLonger (rows_of change.now.after.now) (rows_of change.now.before.now) change.now.name.now change.now.new.now →
+        length more ≤ sum_by (more_size (rows_of change.now.before.now) change.now.name.now change.now.new.now) cores.now) }
 {
     let mut more = Rel::new(alloc);
     'cores: for core in cores {

@@ -1,0 +1,11 @@
+use Rattle.std.proofs.Common.{◌≡◌, ℤ, take}
+use Rattle.std.specs.List.{flat_map}
+use Rattle.og_base.specs.Calendar.{IsRefDay}
+use Rattle.og_base.specs.Set.{set_of}
+use Rattle.og_value.specs.Order.{row_order}
+use Rattle.og_exec.specs.Tables.{rows_on}
+use Rattle.og_view.specs.Again.{passing_rows}
+use Rattle.og_view.proofs.again.again_of.Given as goal
+
+abbrev pub invariant-cores : goal.invariant-cores
+invariant-cores g l = (d : ℤ) → IsRefDay d → rows_on l.again d ≡ set_of row_order (flat_map (passing_rows d (g.T.Tables.named l.tables) l.sieve) (take l.core-index l.cores))

@@ -1,0 +1,52 @@
+use Rattle.std.proofs.Common.{◌≡◌, ◌≤◌, ◌++◌, ℤ, length, ap, subst, sym, ◌∙◌, arith}
+use Rattle.std.specs.List.{All}
+use Rattle.std.proofs.lemmas.List.{length-append}
+use Rattle.og_base.specs.Calendar.{IsRefDay}
+use Rattle.og_base.specs.Set.{set_of}
+use Rattle.og_value.specs.Order.{row_order}
+use Rattle.og_value.specs.Values.{row_at}
+use Rattle.og_rel.proofs.PresentLemmas.{relation_at-append}
+use Rattle.og_query.specs.Fits.{IsFitQuery, tables_of}
+use Rattle.og_query.specs.Queries.{ordinary_query}
+use Rattle.og_query.specs.Sizes.{query_size}
+use Rattle.og_query.proofs.QueryLemmas.{rows_ordered}
+use Rattle.og_exec.specs.Tables.{rows_at, rows_on, sizes_of}
+use Rattle.og_db.specs.Fits.{IsFitFixed}
+use Rattle.og_db.specs.Held.{known_of, put_at, rows_of}
+use Rattle.og_view.specs.Views.{IsAnswered, seen}
+use Rattle.og_view.proofs.AnswerLemmas.{answer_fits, tables_fit}
+use Rattle.og_view.proofs.BaseLemmas.{tables_held}
+use Rattle.og_view.proofs.PutLemmas.{fits_put}
+use Rattle.og_view.proofs.view.View.extend.Goals as goal
+
+pub invariant_of-self-2 : goal.invariant_of-self-2
+invariant_of-self-2 g c =
+    let query = c.self.inside.asked in
+    let old = c.self.inside.bases in
+    let name = c.args.name.now in
+    let rel = c.args.rel in
+    let bases = c.new-bases.result in
+    let result = c.self.inside.result in
+    let more = c.args.more in
+    let was = c.self.invariant.0 in
+    let schemas = tables_of (known_of bases) in
+    let fits : IsFitQuery schemas query = fits_put old name rel bases c.new-bases.ensures query was.fits in
+    let law : (d : ℤ) → IsRefDay d → rows_on c.append.new.self d ≡ ordinary_query d (rows_at (rows_of bases) d) query =
+    λ d day. ap (λ rows. rows_on rows d) c.in_ok-append.ensures.appended
+    ∙ relation_at-append rows_ordered row_at result more d
+    ∙ sym (subst (λ v. ordinary_query d (rows_at (rows_of (put_at name rel v.bases)) d) v.query ≡ set_of row_order (rows_on v.result d ++ rows_on more d)) (sym c.self.view_is) (c.requires.law d day))
+    ∙ sym (ap (λ db. ordinary_query d (rows_at (rows_of db) d) query) c.new-bases.ensures) in
+    let most : length (result ++ more) ≤ query_size (sizes_of (rows_of bases)) query =
+    subst (λ q. length (result ++ more) ≤ query_size (sizes_of (rows_of bases)) q) c.query.ensures
+    (omega (arith, length-append result more, c.len.ensures, c.len-else-len-most.ensures, c.len-else-len-most-2.ensures, c.if-len-most.false, c.if-len-most-2.false, c.size_of-most.ensures)) in (
+      subst (λ db. IsAnswered (seen query db c.append.new.self)) (c.new-bases.ensures ∙ sym c.put.ensures) (record {
+        live = was.live;
+        fits = fits;
+        law = law;
+        size = subst (λ rows. length rows ≤ query_size (sizes_of (rows_of bases)) query) (sym c.in_ok-append.ensures.appended) most;
+        kinds = c.fitting_rows.ensures.on_all_days query.first.schema c.append.new.self c.some_days.ensures
+            (λ d day. subst (All (IsFitFixed query.first.schema)) (sym (law d day))
+            (answer_fits d (rows_at (rows_of bases) d) schemas query fits (tables_fit schemas (rows_of bases) (tables_held (known_of bases) (rows_of bases) c.rows_fit.ensures.held) c.fitting_rows.ensures.on_a_day d query fits)));
+      }),
+      c.self.invariant.1,
+    )

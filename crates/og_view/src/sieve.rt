@@ -1,0 +1,203 @@
+//! Sieves: what stands in the columns of some rows, so that other rows are told from them.
+ghost use Rattle.std.specs.Prelude.{◌≡◌, ◌++◌, ℤ, true, [], IsTrue, IfOk, OnOk, filter};
+ghost use Rattle.std.specs.List.{All};
+ghost use Rattle.og_value.specs.Values.{value_at};
+ghost use Rattle.og_value.specs.declared.value.FixedValue.{FixedValue};
+ghost use Rattle.og_rel.specs.Relations.{stored};
+ghost use Rattle.og_view.specs.Sieves.{is_among, row_meets, row_passes, sifted, tests_from};
+
+use og_base::{NoMemory, OngoingRow, RtSet};
+use og_rel::{Rel, RowTest};
+use og_value::{Row, Text, Value};
+use std::alloc::Global;
+use std::collections::BTreeSet;
+use std::marker::Model;
+
+// Numbers and texts.
+#[derive(Drop)]
+pub(crate) struct Keys {
+    numbers: BTreeSet<i64>,
+    texts: BTreeSet<Text>,
+}
+
+impl Model for Keys {
+    ghost use Rattle.std.specs.Prelude.{ℕ, ℤ, List};
+
+    ghost Value = { List ℤ × List (List ℕ) };
+
+    ghost view = { λ k. (k.numbers.keys, k.texts.keys) };
+}
+
+impl Keys {
+    // The numbers and the texts that rows have in a column; a row that is shorter counts as having 0 there.
+    fn of(alloc: Global, rows: &Rel<Row>, column: usize) -> Result<Keys, NoMemory>
+        ensures { IfOk result (λ keys. All (λ p. row_meets p.0 (column, keys) ≡ true) rows.now) }
+    {
+        let mut keys = Keys {
+            numbers: BTreeSet::new(alloc),
+            texts: BTreeSet::new(alloc),
+        };
+        'rows: for i in 0..rows.len() {
+            keys.add_at(rows.row(i), column)?;
+        }
+        Ok(keys)
+    }
+
+    // Adds what the row has in the column.
+    fn add_at(&mut self, row: &Row, column: usize) -> Result<(), NoMemory>
+        ensures added { OnOk result (row_meets row.now (column, self.new) ≡ true) }
+        ensures kept { OnOk result ((x : FixedValue) → is_among self.old x ≡ true → is_among self.new x ≡ true) }
+    {
+        if column >= row.len() {
+            return self.add(&Value::Int(0));
+        }
+        self.add(row.value(column))
+    }
+
+    // Adds the value, where it is a number or a text.
+    fn add(&mut self, value: &Value) -> Result<(), NoMemory>
+        ensures added { OnOk result ((d : ℤ) → is_among self.new (value_at value.now d) ≡ true) }
+        ensures kept { OnOk result ((x : FixedValue) → is_among self.old x ≡ true → is_among self.new x ≡ true) }
+    {
+        match value {
+            Value::Int(n) => {
+                self.numbers.insert(*n)?;
+            }
+            Value::Text(text) => {
+                self.texts.insert(text.copy()?)?;
+            }
+            Value::Point(_) | Value::Period(_) => {}
+        }
+        Ok(())
+    }
+
+    // Whether there are none.
+    pub(crate) fn is_empty(&self) -> bool
+        ensures { IsTrue result → self.now ≡ ([], []) }
+    {
+        self.numbers.is_empty() && self.texts.is_empty()
+    }
+
+    // Whether what the row has in the column is among these.
+    fn has_at(&self, row: &Row, column: usize) -> bool
+        ensures { result ≡ row_meets row.now (column, self.now) }
+    {
+        if column >= row.len() {
+            return self.has(&Value::Int(0));
+        }
+        self.has(row.value(column))
+    }
+
+    // Whether the value is among these.
+    fn has(&self, value: &Value) -> bool
+        ensures { (d : ℤ) → result ≡ is_among self.now (value_at value.now d) }
+    {
+        match value {
+            Value::Int(n) => self.numbers.contains(n),
+            Value::Text(text) => self.texts.contains(text),
+            Value::Point(_) | Value::Period(_) => true,
+        }
+    }
+}
+
+// What rows have in each column, where they have as many as the first.
+pub(crate) fn keys_of(alloc: Global, rows: &Rel<Row>) -> Result<Vec<Keys>, NoMemory>
+    ensures { IfOk result (λ keys. All (λ p. row_passes (tests_from 0 keys.items) p.0 ≡ true) rows.now) }
+{
+    let width = if rows.len() == 0 {
+        0
+    } else {
+        rows.row(0).len()
+    };
+    let mut keys = Vec::with_capacity(alloc, width)?;
+    'columns: for column in 0..width {
+        keys.push(Keys::of(alloc, rows, column)?)?;
+    }
+    Ok(keys)
+}
+
+// A test of rows: a column, and what may stand in it.
+#[derive(Drop)]
+pub(crate) struct Test<'k> {
+    pub(crate) column: usize,
+    pub(crate) keys: &'k Keys,
+}
+
+impl<'k> Model for Test<'k> {
+    ghost use Rattle.std.specs.Prelude.{ℕ, ℤ, List};
+
+    ghost Value = { ℕ × (List ℤ × List (List ℕ)) };
+
+    ghost view = { λ t. (t.column, t.keys.now) };
+}
+
+// Tests of rows, which a row passes where it meets each.
+#[derive(Drop)]
+pub(crate) struct Sieve<'k> {
+    pub(crate) tests: Vec<Test<'k>>,
+}
+
+impl<'k> Model for Sieve<'k> {
+    ghost use Rattle.std.specs.Prelude.{ℕ, ℤ, List};
+
+    ghost Value = { List (ℕ × (List ℤ × List (List ℕ))) };
+
+    ghost view = { λ s. s.tests.items };
+}
+
+impl<'k> Sieve<'k> {
+    // The sieve of the columns, each with what may stand in it.
+    pub(crate) fn of(alloc: Global, columns: &'k [Keys]) -> Result<Sieve<'k>, NoMemory>
+        ensures { IfOk result (λ sieve. sieve ≡ tests_from 0 columns.now) }
+    {
+        let mut tests = Vec::with_capacity(alloc, columns.len())?;
+        'columns: for column in 0..columns.len() {
+            let keys = &columns[column];
+            tests.push(Test { column, keys })?;
+        }
+        Ok(Sieve { tests })
+    }
+
+    // The rows of the relation that pass.
+    pub(crate) fn sifted(&self, alloc: Global, rel: &Rel<Row>) -> Result<Rel<Row>, NoMemory>
+        ensures { IfOk result (λ kept. kept ≡ sifted self.now rel.now) }
+    {
+        rel.some_days();
+        let mut kept = Rel::new(alloc);
+        'rows: for i in 0..rel.len() {
+            self.keep(alloc, rel.row(i), rel.days(i), &mut kept)?;
+        }
+        Ok(kept)
+    }
+
+    // Adds the row with its days, where it passes.
+    fn keep(
+        &self,
+        alloc: Global,
+        row: &Row,
+        days: &RtSet,
+        kept: &mut Rel<Row>,
+    ) -> Result<(), NoMemory>
+        ensures { OnOk result (kept.new ≡ kept.old ++ sifted self.now (stored row.now days.now)) }
+    {
+        if !self.test(row) {
+            return Ok(());
+        }
+        kept.push(row.copy(alloc)?, days.copy()?)
+    }
+}
+
+impl RowTest<Row> for Sieve<'_> {
+    ghost use Rattle.og_view.specs.Sieves.{row_passes};
+
+    ghost passes = { row_passes };
+
+    fn test(&self, row: &Row) -> bool {
+        'tests: for test in &self.tests {
+            if !test.keys.has_at(row, test.column) {
+                return false;
+            }
+        }
+        true
+    }
+}

@@ -1,0 +1,70 @@
+//! How many rows the answer of a query has at most.
+ghost use Rattle.std.specs.Prelude.{◌≡◌, ◌≤◌, ◌+◌, IsTrue, length};
+ghost use Rattle.og_rel.specs.Relations.{others};
+ghost use Rattle.og_query.specs.Sizes as spec;
+ghost use Rattle.og_exec.specs.Tables.{sizes_of};
+ghost use Rattle.og_db.specs.Held.{rows_of};
+ghost use Rattle.og_view.specs.Sieves.{row_passes};
+
+use crate::put::Put;
+use crate::sieve::Sieve;
+use og_query::{Core, Query};
+use og_rel::{Rel, Tables};
+use og_value::{Name, Row, SetOp};
+
+// The number of rows of the base of that name, 0 where there is none.
+fn rows_in(bases: &Put<'_>, name: &Name) -> usize
+    ensures { result ≡ sizes_of (rows_of bases.now) name.now }
+{
+    match bases.rel(name.bytes()) {
+        Some(rel) => rel.len(),
+        None => 0,
+    }
+}
+
+// The size of the core over the bases, or less where that is a number too great.
+fn core_size(core: &Core, bases: &Put<'_>) -> usize
+    ensures { result ≤ spec.core_size (sizes_of (rows_of bases.now)) core.now }
+{
+    let mut size: usize = 1;
+    'tables: for table in core.tables.as_slice() {
+        size = size.saturating_mul(rows_in(bases, &table.name));
+    }
+    size
+}
+
+// The size of two answers together, or less.
+fn combined_size(op: SetOp, left: usize, right: usize) -> usize
+    ensures { result ≤ spec.combined_size op left right }
+{
+    match op {
+        SetOp::Union => left.saturating_add(right),
+        SetOp::Except | SetOp::Intersect => left,
+    }
+}
+
+// The size of the query over the bases, or less where that is a number too great.
+pub(crate) fn size_of(query: &Query, bases: &Put<'_>) -> usize
+    ensures { result ≤ spec.query_size (sizes_of (rows_of bases.now)) query.now }
+{
+    let mut size = core_size(&query.first, bases);
+    'rests: for rest in query.rest.as_slice() {
+        size = combined_size(rest.op, size, core_size(&rest.core, bases));
+    }
+    size
+}
+
+// Whether the rows that do not pass the sieve and so many more are no more than most.
+pub(crate) fn has_room(rel: &Rel<Row>, sieve: &Sieve<'_>, more: usize, most: usize) -> bool
+    ensures { IsTrue result → length (others (row_passes sieve.now) rel.now) + more ≤ most }
+{
+    if more > most {
+        return false;
+    }
+    let room = most - more;
+    // The others are counted only where all rows would be too many.
+    if rel.len() <= room {
+        return true;
+    }
+    rel.count_others(sieve) <= room
+}
