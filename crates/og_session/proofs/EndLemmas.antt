@@ -15,19 +15,22 @@ use Rattle.og_words.specs.declared.command.WordsRefusal.{WordsRefusal}
 use Rattle.og_words.specs.declared.command.WordsRefusal.TheVariants as refusals
 use Rattle.og_db.specs.Database.{Relation}
 use Rattle.og_db.specs.Held.{Held}
-use Rattle.og_session.specs.Counts.{IsAbsenceCount, IsFaultCount, is_file_fault, is_read_fault, is_write_fault}
-use Rattle.og_session.specs.Ends.{Ends, EndsUnreported, EndsWith, IsEndOf, IsRunCommand, IsScriptStop, IsStopBefore, RunEnds, fault_line, fault_status, status_of}
+use Rattle.og_faults.specs.Counts.{IsAbsenceCount, IsFaultCount, is_file_fault, is_read_fault, is_write_fault}
+use Rattle.og_faults.specs.Faults.{fault_line, fault_status, status_of}
+use Rattle.og_faults.specs.Lines.{words_line}
+use Rattle.og_faults.specs.Stops.{stop_of_put, stop_of_words}
+use Rattle.og_faults.specs.declared.fault.Fault.{Fault}
+use Rattle.og_faults.specs.declared.fault.Fault.TheVariants as faults
+use Rattle.og_faults.specs.declared.stop.Stop.{Stop}
+use Rattle.og_faults.specs.declared.stop.Stop.TheVariants as stops
+use Rattle.og_script.specs.Stops.{IsRunCommand, IsScriptStop, IsStopBefore}
+use Rattle.og_script.specs.Scripts.{IsScriptFault}
+use Rattle.og_output.specs.Puts.{IsPut}
+use Rattle.og_session.specs.Ends.{Ends, EndsUnreported, EndsWith, IsEndOf, RunEnds}
 use Rattle.og_session.specs.Headline.{IsCutShort, IsStateOf, next_piece}
-use Rattle.og_session.specs.Lines.{words_line}
 use Rattle.og_session.specs.Output.{output_from}
-use Rattle.og_session.specs.Puts.{IsPut}
-use Rattle.og_session.specs.Runs.{Run, IsNoCommand, IsRun, IsScriptFault, refused}
-use Rattle.og_session.specs.Stops.{stop_of_put, stop_of_words}
-use Rattle.og_session.specs.declared.fault.Fault.{Fault}
-use Rattle.og_session.specs.declared.fault.Fault.TheVariants as faults
-use Rattle.og_session.specs.declared.fault.Stop.{Stop}
-use Rattle.og_session.specs.declared.fault.Stop.TheVariants as stops
-use Rattle.og_session.proofs.CountLemmas.{early, one_of_three}
+use Rattle.og_session.specs.Runs.{Run, IsNoCommand, IsRun, refused}
+use Rattle.og_session.proofs.StopLemmas.{early, one_of_three}
 
 -- ---- before the statements
 

@@ -29,15 +29,16 @@ use Rattle.og_file.specs.SavedFile.{Pair, IsSavedFault, IsSavedFile, IsVersionTw
 use Rattle.og_file.specs.TableFile.{IsTableFault, IsTableFile}
 use Rattle.og_file.specs.declared.refusal.FileRefusal.{FileRefusal}
 use Rattle.og_file.specs.declared.refusal.FileRefusal.TheVariants as refused
-use Rattle.og_session.specs.Contents.{AreContents, Content, Contents, IsContent, IsHeld, IsSavedContent, IsTableContent, Refused, by_file, columns_after, effect_of, importing, importing_of, in_file, no_file, opening, opening_of, taken}
+use Rattle.og_view.proofs.BaseLemmas.{table_known}
+use Rattle.og_faults.specs.Refusals.{Refused, by_file, in_file, no_file}
+use Rattle.og_faults.specs.Stops.{stop_of_bytes, stop_of_files}
+use Rattle.og_faults.specs.declared.fault.Fault.TheVariants as faults
+use Rattle.og_faults.specs.declared.stop.Stop.TheVariants as stops
+use Rattle.og_session.specs.Contents.{AreContents, Content, Contents, IsContent, IsHeld, IsSavedContent, IsTableContent, columns_after, effect_of, importing, importing_of, opening, opening_of, taken}
 use Rattle.og_session.specs.Ends.{IsHeldState, IsLeft, IsOfFile, StepEnds, is_saved_by, piece_or_line}
 use Rattle.og_session.specs.Headline.{HoldFiles, IsFileOf, no_name}
 use Rattle.og_session.specs.Names.{IsAdded, IsDone, IsRunning, Watched}
 use Rattle.og_session.proofs.StateLemmas.{saved_running}
-use Rattle.og_session.specs.Stops.{stop_of_bytes, stop_of_files}
-use Rattle.og_session.specs.declared.fault.Fault.TheVariants as faults
-use Rattle.og_session.specs.declared.fault.Stop.TheVariants as stops
-use Rattle.og_view.proofs.BaseLemmas.{table_known}
 
 -- ---- the files
 

@@ -7,17 +7,18 @@ use Rattle.og_base.specs.Told.{IsPrefix, Rose}
 use Rattle.og_base.proofs.SetLemmas.{Contains-cons_cases}
 use Rattle.og_io.specs.Folders.{Folder}
 use Rattle.og_db.specs.Effects.{Effect}
-use Rattle.og_session.specs.Counts.{IsAbsenceCount, IsFaultCount, is_file_fault, is_read_fault, is_write_fault}
-use Rattle.og_session.specs.Ends.{Ends, EndsWith, IsEndOf, IsWhole, fault_line, fault_status, status_of}
+use Rattle.og_faults.specs.Counts.{IsAbsenceCount, IsFaultCount, is_file_fault, is_read_fault, is_write_fault}
+use Rattle.og_faults.specs.Faults.{fault_line, fault_status, status_of}
+use Rattle.og_faults.specs.Lines.{no_file_line}
+use Rattle.og_faults.specs.declared.fault.Fault.{Fault}
+use Rattle.og_faults.specs.declared.fault.Fault.TheVariants as faults
+use Rattle.og_faults.specs.declared.stop.Stop.{Stop}
+use Rattle.og_faults.specs.declared.stop.Stop.TheVariants as stops
+use Rattle.og_session.specs.Ends.{Ends, EndsWith, IsEndOf, IsWhole}
 use Rattle.og_session.specs.Headline.{AreTold, AreUnfailed, Call, HasCause, HasOutput, HasState, HasStatus, HasStop, Headline, IsAsDefined, IsCause, IsComplete, IsCut, IsDefined, IsOneOf, IsStateOf, IsStop, IsStopped, IsTold, next_piece}
-use Rattle.og_session.specs.Lines.{no_file_line}
 use Rattle.og_session.specs.Output.{piece_of, output_from}
 use Rattle.og_session.specs.Runs.{Run, IsDefinedRun, IsRun, output}
-use Rattle.og_session.specs.declared.fault.Fault.{Fault}
-use Rattle.og_session.specs.declared.fault.Fault.TheVariants as faults
-use Rattle.og_session.specs.declared.fault.Stop.{Stop}
-use Rattle.og_session.specs.declared.fault.Stop.TheVariants as stops
-use Rattle.og_session.proofs.CountLemmas.{one_of_three}
+use Rattle.og_session.proofs.StopLemmas.{one_of_three}
 use Rattle.og_session.proofs.RunLemmas.{output_from-append}
 
 -- ---- fronts

@@ -17,7 +17,7 @@ use Rattle.og_check.specs.Limits.{max_tables}
 use Rattle.og_check.specs.Steps.{◌>>=◌, ◌>>◌, pure, in_order, agree, within}
 use Rattle.og_check.proofs.OkLemmas.{ok_same, where_ok}
 use Rattle.og_view.specs.Views.{IsLiveQuery, IsLiveRest}
-use Rattle.og_session.specs.Lives.{IsLiveRestText, IsLiveText}
+use Rattle.og_script.specs.LiveTexts.{IsLiveRestText, IsLiveText}
 
 module _ (schemas : Schemas) where
   -- a SELECT without EXISTS has none after its checks

@@ -17,8 +17,8 @@ use Rattle.og_db.specs.Held.{Held, described, found, known_of, rows_of, made_of,
 use Rattle.og_db.specs.Live.{Live, query_of, answered, refreshed}
 use Rattle.og_db.specs.Runs.{AreWithin, IsWithin, is_stored, sizes_at, stored}
 use Rattle.og_view.specs.Views.{Seen}
+use Rattle.og_output.specs.Records.{names_text, records, what_word}
 use Rattle.og_session.specs.Names.{AreLiveViews, IsLiveView, Views, lives_of, shown, with_views}
-use Rattle.og_session.specs.Output.{names_text, records, what_word}
 
 -- the name stays, and what it is
 pub shown-name : (o : Option Seen) (h : Held Relation) → (shown o h).name ≡ h.name

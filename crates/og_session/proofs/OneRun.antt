@@ -5,11 +5,12 @@ use Rattle.og_words.specs.Grammar.{IsCommand}
 use Rattle.og_words.specs.declared.command.Command.{Command}
 use Rattle.og_words.specs.declared.command.Command.TheVariants as commands
 use Rattle.og_io.specs.Folders.{Folder}
-use Rattle.og_session.specs.Commands.{at_script, load_script}
+use Rattle.og_faults.specs.Lines.{words_line}
+use Rattle.og_script.specs.Commands.{at_script, load_script}
+use Rattle.og_script.specs.Scripts.{IsScriptFault, IsScriptOf}
+use Rattle.og_script.proofs.Scripts.{IsScriptOrNot, Laws, one_script, no_fault, one_fault_line}
 use Rattle.og_session.specs.Contents.{AreContents, Contents}
-use Rattle.og_session.specs.Lines.{words_line}
-use Rattle.og_session.specs.Runs.{Run, IsDefinedRun, IsRun, IsNoCommand, IsScriptFault, IsScriptOf, no_command, no_script, is_run, refused, run_from}
-use Rattle.og_session.proofs.Scripts.{IsScriptOrNot, Laws, one_script, no_fault, one_fault_line}
+use Rattle.og_session.specs.Runs.{Run, IsDefinedRun, IsRun, IsNoCommand, no_command, no_script, is_run, refused, run_from}
 
 -- words are one command at most
 abbrev pub IsOneCommand : Type 0

@@ -17,8 +17,9 @@ use Rattle.og_exec.specs.Tables.{rows_at}
 use Rattle.og_db.specs.Held.{Held, described, found, made_of, rows_of}
 use Rattle.og_db.specs.Runs.{AreWithin, IsWorldOf, sizes_at}
 use Rattle.og_db.specs.Statements.{named_rows}
+use Rattle.og_output.specs.Records.{layout, names_text, records, what_word}
 use Rattle.og_session.proofs.AnswerLemmas.{rows_at-world}
-use Rattle.og_session.specs.Output.{held_layout, layout, names_text, piece_of, records, what_word}
+use Rattle.og_session.specs.Output.{held_layout, piece_of}
 
 -- the record of a name
 abbrev pub name_record : {V : Type 0} → Held V → List (List ℕ)

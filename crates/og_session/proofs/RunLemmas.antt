@@ -10,15 +10,16 @@ use Rattle.og_db.specs.Database.{Relation}
 use Rattle.og_db.specs.Effects.{Effect, on_names, saved, reopened, opened, imported}
 use Rattle.og_db.specs.Held.{Held}
 use Rattle.og_db.specs.Runs.{stored}
-use Rattle.og_session.specs.Contents.{Contents, Refused, by_checks, by_file, outcome}
+use Rattle.og_faults.specs.Refusals.{Refused, by_checks, by_file}
+use Rattle.og_faults.specs.declared.stop.Stop.{Stop}
+use Rattle.og_faults.specs.declared.stop.Stop.TheVariants as stops
+use Rattle.og_session.specs.Contents.{Contents, outcome}
 use Rattle.og_session.specs.Ends.{IsHeldState, RunEnds, StepEnds, IsUnreported, IsOfFile, is_saved_by, piece_or_line}
 use Rattle.og_session.specs.Headline.{IsCut, IsCutShort, IsCutAtFile, IsCutAtPiece, IsAtFile, HoldFiles, IsStateBut, IsStateOf, is_written_by, next_piece}
 use Rattle.og_session.specs.Names.{Watched}
 use Rattle.og_session.specs.Output.{piece_of, output_from}
 use Rattle.og_session.specs.Runs.{Run, after_outcome, run_from}
 use Rattle.og_session.proofs.StateLemmas.{left_state}
-use Rattle.og_session.specs.declared.fault.Stop.{Stop}
-use Rattle.og_session.specs.declared.fault.Stop.TheVariants as stops
 
 -- what more statements write
 pub output_from-append : (front xs ys : List Effect) → output_from front (xs ++ ys) ≡ output_from front xs ++ output_from (front ++ xs) ys

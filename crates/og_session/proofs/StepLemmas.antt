@@ -23,16 +23,18 @@ use Rattle.og_db.specs.Effects.{Effect, on_names}
 use Rattle.og_db.specs.Runs.{known_after, stored}
 use Rattle.og_db.specs.Statements.{is_of_names}
 use Rattle.og_io.specs.Folders.{Folder}
-use Rattle.og_session.specs.Contents.{Contents, by_checks, effect_of, outcome, outcome_of}
+use Rattle.og_faults.specs.Refusals.{by_checks}
+use Rattle.og_faults.specs.Stops.{stop_of_check, stop_of_put}
+use Rattle.og_faults.specs.declared.stop.Stop.TheVariants as stops
+use Rattle.og_script.specs.LiveTexts.{IsLiveStmt}
+use Rattle.og_output.specs.Puts.{IsPut}
+use Rattle.og_session.specs.Contents.{Contents, effect_of, outcome, outcome_of}
 use Rattle.og_session.specs.Ends.{IsLeft, StepEnds, piece_or_line}
-use Rattle.og_session.specs.Lives.{IsLiveStmt, IsLiveTyped}
+use Rattle.og_session.specs.Lives.{IsLiveTyped}
 use Rattle.og_session.specs.Names.{Watched}
 use Rattle.og_session.specs.Headline.{IsStateOf}
 use Rattle.og_session.specs.Output.{piece_of}
-use Rattle.og_session.specs.Puts.{IsPut}
 use Rattle.og_session.proofs.LiveChecks.{live_query}
-use Rattle.og_session.specs.Stops.{stop_of_check, stop_of_put}
-use Rattle.og_session.specs.declared.fault.Stop.TheVariants as stops
 
 module _ (start : Folder) (n : ℕ) (before : List Effect) where
   -- a statement that was refused by its checks

@@ -8,7 +8,6 @@ use Rattle.og_query.specs.declared.typed.Typed.TheVariants as t
 use Rattle.og_syntax.specs.declared.tree.Stmt.{Stmt}
 use Rattle.og_check.specs.Statements.{checked}
 use Rattle.og_check.specs.Steps.{Checked}
-use Rattle.og_check.specs.declared.refusal.CheckRefusal.{CheckRefusal}
 use Rattle.og_db.specs.Effects.{Effect, on_names, saved, reopened, opened, imported, sizes_after}
 use Rattle.og_db.specs.Held.{Held, found}
 use Rattle.og_db.specs.Runs.{known_after}
@@ -18,6 +17,7 @@ use Rattle.og_file.specs.TableFile.{IsTableFault, IsTableFile}
 use Rattle.og_file.specs.declared.refusal.FileRefusal.{FileRefusal}
 use Rattle.og_file.specs.declared.refusal.FileRefusal.TheVariants as refused
 use Rattle.og_io.specs.Folders.{Folder}
+use Rattle.og_faults.specs.Refusals.{FileFault, no_file, in_file, Refused, by_checks, by_file}
 
 -- ---- what files hold
 
@@ -57,11 +57,6 @@ AreContents folder contents = (name : List ℕ) → IsHeld (folder name) (conten
 
 -- ---- what statements on files do
 
--- file fault: the name has no file, or the bytes of its file have a fault
-pub data FileFault : Type 0 where
-  no_file : List ℕ → FileFault
-  in_file : FileRefusal → FileFault
-
 -- an OPEN of a file that was there at the start
 abbrev pub opening_of : List ℕ → Result (List Column × List Pair) FileRefusal → Result Effect FileFault
 opening_of name (Ok table) = Ok (opened name table.0 table.1)
@@ -94,11 +89,6 @@ effect_of start before (t.Save name file) = Ok (saved name file)
 effect_of start before (t.OpenFile name file) = opening name file (found (sizes_after before).files file) (start file)
 effect_of start before (t.ImportFile name file) = importing name (columns_after before name) file (found (sizes_after before).files file) (start file)
 effect_of start before stmt = Ok (on_names stmt)
-
--- why a statement is refused: by its checks, or for its file
-pub data Refused : Type 0 where
-  by_checks : CheckRefusal → Refused
-  by_file : FileFault → Refused
 
 -- of a statement that passed its checks
 abbrev pub taken : Result Effect FileFault → Result Effect Refused

@@ -2,84 +2,24 @@
 use Rattle.std.specs.Prelude.{◌≡◌, ◌++◌, ◌⊎◌, ⊤, ℕ, List, [], ◌∷◌, Option, Some, Contains, Result, Ok, Err}
 use Rattle.og_base.specs.Told.{IsPrefix}
 use Rattle.og_io.specs.Folders.{Folder}
-use Rattle.og_words.specs.declared.command.Command.{Command}
-use Rattle.og_words.specs.declared.command.Command.TheVariants as commands
 use Rattle.og_db.specs.Database.{Relation}
 use Rattle.og_db.specs.Effects.{Effect, on_names, saved}
 use Rattle.og_db.specs.Held.{Held}
 use Rattle.og_db.specs.Runs.{stored}
-use Rattle.og_lex.specs.declared.refusal.LexRefusal.TheVariants as lexes
-use Rattle.og_parse.specs.declared.refusal.ParseRefusal.TheVariants as parses
-use Rattle.og_session.specs.Contents.{Refused, by_checks, by_file, no_file, in_file}
 use Rattle.og_file.specs.declared.refusal.FileRefusal.TheVariants as files
+use Rattle.og_faults.specs.Refusals.{Refused, by_checks, by_file}
+use Rattle.og_faults.specs.Lines.{refused_line, refused_status}
+use Rattle.og_faults.specs.Faults.{fault_line, fault_status, status_of}
+use Rattle.og_faults.specs.declared.fault.Fault.{Fault}
+use Rattle.og_faults.specs.declared.stop.Stop.{Stop}
+use Rattle.og_faults.specs.declared.stop.Stop.TheVariants as stops
+use Rattle.og_script.specs.Scripts.{IsScriptFault}
 use Rattle.og_session.specs.Headline.{IsCutShort, IsCutAtPiece, IsCutAtFile, HoldFiles, IsStateBut, IsStateOf, no_name}
-use Rattle.og_session.specs.Lines.{words_line, too_long_line, lex_line, parse_line, check_line, file_line, refused_line, refused_status}
 use Rattle.og_session.specs.Names.{Watched, IsRunning}
 use Rattle.og_session.specs.Output.{piece_of, output_from}
-use Rattle.og_session.specs.Runs.{Run, IsNoCommand, IsRun, IsScriptFault, output}
-use Rattle.og_session.specs.declared.fault.Fault.{Fault}
-use Rattle.og_session.specs.declared.fault.Fault.TheVariants as faults
-use Rattle.og_session.specs.declared.fault.Stop.{Stop}
-use Rattle.og_session.specs.declared.fault.Stop.TheVariants as stops
-
--- the line of a fault
-abbrev pub fault_line : Fault → List ℕ
-fault_line faults.Words = words_line
-fault_line faults.SourceTooLong = too_long_line
-fault_line (faults.BadByte offset) = lex_line (lexes.BadByte offset)
-fault_line (faults.OpenText offset) = lex_line (lexes.OpenText offset)
-fault_line (faults.NumberRange offset) = lex_line (lexes.NumberRange offset)
-fault_line (faults.Syntax statement) = parse_line (parses.Syntax statement)
-fault_line (faults.TooDeep statement) = parse_line (parses.TooDeep statement)
-fault_line (faults.Literal statement) = parse_line (parses.Literal statement)
-fault_line (faults.Check statement refusal) = check_line statement refusal
-fault_line (faults.NoFile statement file) = file_line statement (no_file file)
-fault_line (faults.Header statement) = file_line statement (in_file files.Header)
-fault_line (faults.Record statement number) = file_line statement (in_file (files.Cell number))
-fault_line (faults.RowCount statement said found) = file_line statement (in_file (files.RowCount said found))
-
--- the status of a fault
-abbrev pub fault_status : Fault → ℕ
-fault_status faults.Words = 2
-fault_status (faults.Check statement refusal) = 4
-fault_status (faults.NoFile statement file) = 5
-fault_status (faults.Header statement) = 5
-fault_status (faults.Record statement number) = 5
-fault_status (faults.RowCount statement said found) = 5
-fault_status _ = 3
-
--- the status of a run's end
-abbrev pub status_of : Result (Unit {0}) Stop → ℕ
-status_of (Ok done) = 0
-status_of (Err (stops.Fault fault)) = fault_status fault
-status_of (Err stops.ReadFault) = 6
-status_of (Err stops.FileFault) = 7
-status_of (Err stops.WriteFault) = 8
-status_of (Err stops.NoMemory) = 9
+use Rattle.og_session.specs.Runs.{Run, IsNoCommand, IsRun, output}
 
 -- ---- the words and the script
-
--- the command is run
-abbrev pub IsRunCommand : Command → Type 0
-IsRunCommand (commands.Run workers) = ⊤
-IsRunCommand _ = ⊥
-
--- the source has these bytes left, where the command asks for them
-abbrev pub IsSourceOf : Command → Option (List ℕ) → List ℕ → Type 0
-IsSourceOf command left source = IsRunCommand command → left ≡ Some source
-
--- why a command has no statements to run: its source is no script, or failed, or memory ran out
-abbrev pub IsScriptStop : List ℕ → Stop → Type 0
-IsScriptStop source (stops.Fault fault) = IsScriptFault source (fault_line fault)
-IsScriptStop source _ = ⊤
-
--- and what else is known of it
-abbrev pub IsStopBefore : Command → Stop → Type 0
-IsStopBefore command (stops.Fault fault) = IsRunCommand command × (fault_status fault ≡ 3)
-IsStopBefore command stops.ReadFault = IsRunCommand command
-IsStopBefore command stops.FileFault = ⊥
-IsStopBefore command stops.WriteFault = ⊥
-IsStopBefore command stops.NoMemory = ⊤
 
 -- the run ended with one of these statuses
 abbrev pub EndsWith : List ℕ → Result (Unit {0}) Stop → Type 0

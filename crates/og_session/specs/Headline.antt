@@ -8,9 +8,10 @@ use Rattle.og_db.specs.Database.{Relation}
 use Rattle.og_db.specs.Effects.{Effect, on_names, saved}
 use Rattle.og_db.specs.Held.{Held, found}
 use Rattle.og_db.specs.Runs.{IsWorldOf, stored}
-use Rattle.og_session.specs.Lines.{no_file_line}
+use Rattle.og_faults.specs.Lines.{no_file_line}
+use Rattle.og_script.specs.Scripts.{IsScriptFault}
 use Rattle.og_session.specs.Output.{piece_of, output_from}
-use Rattle.og_session.specs.Runs.{Run, IsRun, IsNoCommand, IsScriptFault, IsDefinedRun, output}
+use Rattle.og_session.specs.Runs.{Run, IsRun, IsNoCommand, IsDefinedRun, output}
 
 -- ---- what is seen of a call
 

@@ -1,16 +1,9 @@
 pub mod Answers
-pub mod Calendars
-pub mod Commands
 pub mod Contents
-pub mod Counts
 pub mod Ends
 pub mod Following
 pub mod Headline
-pub mod Lines
 pub mod Lives
 pub mod Names
 pub mod Output
-pub mod Puts
-pub mod Reading
 pub mod Runs
-pub mod Stops

@@ -1,15 +1,8 @@
 -- What statements write, as the ordinary engine says it.
-use Rattle.std.specs.Prelude.{◌++◌, ◌+ℤ◌, ◌-ℤ◌, ℕ, zero, suc, ℤ, pos, Bool, List, [], ◌∷◌, Option, Some, None, map, codes, unsigned_abs, if◌then◌else◌}
-use Rattle.std.specs.List.{flat_map}
+use Rattle.std.specs.Prelude.{◌++◌, ◌+ℤ◌, ◌-ℤ◌, ℕ, zero, suc, ℤ, pos, Bool, List, [], ◌∷◌, Option, Some, None, unsigned_abs, if◌then◌else◌}
 use Rattle.std.specs.Str.{bytes_eq}
-use Rattle.csv.specs.Writing.{default_writer, row_text}
-use Rattle.og_base.specs.Calendar.{day_text, first_day, last_day}
+use Rattle.og_base.specs.Calendar.{first_day, last_day}
 use Rattle.og_base.specs.Ranges.{Range}
-use Rattle.og_base.specs.SetTexts.{lower_text}
-use Rattle.og_value.specs.Cells.{fixed_text}
-use Rattle.og_value.specs.declared.kind.What.{What}
-use Rattle.og_value.specs.declared.kind.What.TheVariants as what
-use Rattle.og_value.specs.declared.schema.Column.{Column}
 use Rattle.og_query.specs.Queries.{Fixed, ordinary_query}
 use Rattle.og_query.specs.declared.typed.Typed.TheVariants as t
 use Rattle.og_plan.specs.PlanOf.{plan_of}
@@ -17,29 +10,12 @@ use Rattle.og_plan.specs.Text.{plan_text}
 use Rattle.og_db.specs.Effects.{Effect, on_names, sizes_after, world_of_day}
 use Rattle.og_db.specs.Held.{Held, found}
 use Rattle.og_db.specs.Statements.{named_rows}
-
--- records, one after the other, as csv writes them
-unfoldable pub records : List (List (List ℕ)) → List ℕ
-records rows = flat_map (row_text default_writer) rows
-
--- layout: a record of the columns' names, then a record of the texts of each row's values
-abbrev pub layout : List Column → List Fixed → List ℕ
-layout columns rows = records (map (λ column. column.name) columns ∷ map (map fixed_text) rows)
+use Rattle.og_output.specs.Records.{layout, names_text, range_records}
 
 -- the layout of what is held under a name, and nothing where nothing is
 abbrev pub held_layout : Option (Held (List Fixed)) → List ℕ
 held_layout (Some held) = layout held.columns held.rows
 held_layout None = []
-
--- the word of what a name is
-abbrev pub what_word : What → List ℕ
-what_word what.Table = codes "table"
-what_word what.Kept = codes "kept"
-what_word what.Live = codes "live"
-
--- the record name,what and then one for each name, in the order of creation
-abbrev pub names_text : {V : Type 0} → List (Held V) → List ℕ
-names_text held = records ((codes "name" ∷ codes "what" ∷ []) ∷ map (λ h. h.name ∷ what_word h.what ∷ []) held)
 
 -- what a PRINT of a name writes on a day after these statements
 abbrev pub printed : List Effect → List ℕ → ℤ → List ℕ
@@ -65,10 +41,6 @@ valid_range before name day = record {
   lo = first_of (prints_same before name day) day (unsigned_abs (day -ℤ first_day));
   hi = end_of (prints_same before name day) day (unsigned_abs (last_day -ℤ day));
 }
-
--- the record from,to and one with the two ends, as a set text has them
-abbrev pub range_records : Range → List ℕ
-range_records range = records ((codes "from" ∷ codes "to" ∷ []) ∷ (lower_text range.lo ∷ day_text range.hi ∷ []) ∷ [])
 
 -- what a statement writes after those before it: a PRINT writes the rows in the world of its own day
 abbrev pub piece_of : List Effect → Effect → List ℕ

@@ -1,20 +1,15 @@
 -- Defined run: which statements a run carries out, what it writes, and with which status it ends.
-use Rattle.std.specs.Prelude.{◌≡◌, ◌≤◌, ◌<◌, ◌++◌, ℕ, suc, List, [], ◌∷◌, Result, Ok, Err, length}
-use Rattle.og_lex.specs.Faults as lexer
-use Rattle.og_lex.specs.Grammar.{IsLexed}
-use Rattle.og_lex.specs.declared.refusal.LexRefusal.{LexRefusal}
-use Rattle.og_lex.specs.declared.token.Token.{Token}
-use Rattle.og_parse.specs.Script as parser
-use Rattle.og_parse.specs.declared.refusal.ParseRefusal.{ParseRefusal}
+use Rattle.std.specs.Prelude.{◌≡◌, ◌++◌, ℕ, suc, List, [], ◌∷◌, Result, Ok, Err}
 use Rattle.og_syntax.specs.declared.tree.Stmt.{Stmt}
 use Rattle.og_words.specs.Grammar.{IsCommand}
 use Rattle.og_words.specs.declared.command.Command.{Command}
 use Rattle.og_words.specs.declared.command.Command.TheVariants as commands
 use Rattle.og_io.specs.Folders.{Folder}
 use Rattle.og_db.specs.Effects.{Effect}
-use Rattle.og_session.specs.Commands.{at_script, load_script}
-use Rattle.og_session.specs.Contents.{Contents, AreContents, Refused, outcome}
-use Rattle.og_session.specs.Lines.{words_line, too_long_line, lex_line, parse_line, refused_line, refused_status}
+use Rattle.og_faults.specs.Refusals.{Refused}
+use Rattle.og_faults.specs.Lines.{words_line, refused_line, refused_status}
+use Rattle.og_script.specs.Scripts.{IsScriptFault, IsScriptOf}
+use Rattle.og_session.specs.Contents.{Contents, AreContents, outcome}
 use Rattle.og_session.specs.Output.{output_from}
 
 -- ---- the statements
@@ -43,34 +38,6 @@ abbrev pub run_from : Contents → ℕ → List Effect → List Stmt → Run
 run_from start n before [] = record { done = before; line = []; status = 0 }
 run_from start n before (stmt ∷ stmts) = after_outcome n before (λ effect. run_from start (suc n) (before ++ effect ∷ []) stmts) (outcome start before stmt)
 
--- ---- the script
-
--- the most bytes of a source
-abbrev pub max_source : ℕ
-max_source = 16_777_216
-
--- the trees that the two grammars give the source
-abbrev pub AreTrees : List ℕ → List Stmt → Type 0
-AreTrees source stmts = (tokens : List Token) × IsLexed source tokens × parser.IsScript source tokens stmts
-
--- the source has tokens, and this is the first fault of their statements
-abbrev pub IsTreeFault : List ℕ → ParseRefusal → Type 0
-IsTreeFault source fault = (tokens : List Token) × IsLexed source tokens × parser.IsFirstFault source tokens fault
-
--- the source is this script
-pub record IsScript (source : List ℕ) (stmts : List Stmt) : Type 0 where
-  pub short : length source ≤ max_source
-  pub trees : AreTrees source stmts
-
--- the source is no script, and this is the line of its fault
-pub data IsScriptFault (source line : List ℕ) : Type 0 where
-  -- it has too many bytes
-  too_long : max_source < length source → line ≡ too_long_line → IsScriptFault source line
-  -- it has no tokens
-  no_tokens : length source ≤ max_source → (fault : LexRefusal) → lexer.IsFirstFault source fault → line ≡ lex_line fault → IsScriptFault source line
-  -- its tokens have no tree
-  no_tree : length source ≤ max_source → (fault : ParseRefusal) → IsTreeFault source fault → line ≡ parse_line fault → IsScriptFault source line
-
 -- ---- the run
 
 -- the words are the command run
@@ -80,12 +47,6 @@ IsRun words = (workers : ℕ) × IsCommand words (commands.Run workers)
 -- the words are no command
 abbrev pub IsNoCommand : List (List ℕ) → Type 0
 IsNoCommand words = (command : Command) → ¬ IsCommand words command
-
--- the command runs these statements: those of the source, or those of its own script
-abbrev pub IsScriptOf : Command → List ℕ → List Stmt → Type 0
-IsScriptOf (commands.Run workers) source stmts = IsScript source stmts
-IsScriptOf (commands.At file day) source stmts = stmts ≡ at_script file day
-IsScriptOf (commands.Load rows workers) source stmts = stmts ≡ load_script rows
 
 -- defined run of the words, the source's bytes and the files at the start
 pub data IsDefinedRun (words : List (List ℕ)) (source : List ℕ) (start : Folder) (run : Run) : Type 0 where

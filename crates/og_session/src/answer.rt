@@ -1,4 +1,4 @@
-//! The answers of queries: here alone a query is planned and executed.
+//! The answers of queries that are asked once; og_view asks those of live results.
 ghost use Rattle.std.specs.Prelude.{◌≡◌, ◌≤◌, ℤ, IfOk, length};
 ghost use Rattle.og_base.specs.Calendar.{IsRefDay};
 ghost use Rattle.og_par.specs.Limits.{max_workers};

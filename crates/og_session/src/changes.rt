@@ -8,10 +8,10 @@ ghost use Rattle.og_db.specs.Runs.{AreWithin, sizes_at};
 ghost use Rattle.og_db.specs.Statements.{names_after, name_sizes_after};
 ghost use Rattle.og_session.specs.Following.{IsChange, changed_name};
 
-use crate::moves::into_vec;
 use og_base::NoMemory;
 use og_db::Db;
 use og_query::Typed;
+use og_script::into_vec;
 use std::alloc::Global;
 
 /// Carries the statement out on its table. The rows of an INSERT go into it without a copy. Refused only for

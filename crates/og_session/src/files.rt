@@ -10,15 +10,15 @@ ghost use Rattle.og_db.specs.Database.{IsTableOf};
 ghost use Rattle.og_db.specs.Effects.{Effect, imported, saved};
 ghost use Rattle.og_db.specs.Held.{known_of};
 ghost use Rattle.og_db.specs.Runs.{stored};
+ghost use Rattle.og_faults.specs.Counts.{IsAbsenceCount, IsFaultCount, is_file_fault};
 ghost use Rattle.og_session.specs.Contents.{AreContents, Contents, effect_of, taken};
-ghost use Rattle.og_session.specs.Counts.{IsAbsenceCount, IsFaultCount, is_file_fault};
 ghost use Rattle.og_session.specs.Ends.{IsFileStop, IsHeldState, StepEnds};
 ghost use Rattle.og_session.specs.Names.{IsDone};
 
-use crate::fault::{Fault, Stop};
 use crate::names::Names;
 use og_base::NoMemory;
 use og_db::{known_names, one_file_more};
+use og_faults::{Fault, Stop};
 use og_file::{
     a_saved_file_is_no_table_file, column_names_are_words, no_fault_of_a_saved_file,
     no_fault_of_a_table_file, one_fault_of_a_saved_file, one_fault_of_a_table_file, one_saved_file,

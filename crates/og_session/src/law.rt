@@ -8,10 +8,11 @@ ghost use Rattle.og_words.specs.Grammar.{IsCommand};
 ghost use Rattle.og_words.specs.declared.command.Command as commands;
 ghost use Rattle.og_io.specs.Folders.{Folder};
 ghost use Rattle.og_db.specs.Effects.{Effect};
+ghost use Rattle.og_faults.specs.Lines.{words_line};
+ghost use Rattle.og_script.specs.Scripts.{IsScript, IsScriptFault, IsScriptOf};
 ghost use Rattle.og_session.specs.Contents.{AreContents, Contents};
-ghost use Rattle.og_session.specs.Lines.{words_line};
 ghost use Rattle.og_session.specs.Output.{printed, valid_range};
-ghost use Rattle.og_session.specs.Runs.{IsDefinedRun, IsNoCommand, IsRun, IsScript, IsScriptFault, IsScriptOf, Run, refused, run_from};
+ghost use Rattle.og_session.specs.Runs.{IsDefinedRun, IsNoCommand, IsRun, Run, refused, run_from};
 
 use og_file::{
     each_saved_file_or_fault, each_table_file_or_fault, no_fault_of_a_saved_file,

@@ -6,39 +6,28 @@
 //! (`IsDefinedRun` in specs/Runs.antt), or that a device failed or memory ran out after some first
 //! statements. What a statement does after those before it, or why it is refused, is `outcome` in
 //! specs/Contents.antt; what it writes stands in specs/Output.antt, where the range of VALID is the longest
-//! one (`valid_ranges`), the lines of faults in specs/Lines.antt, the scripts of `at` and `load` in
-//! specs/Commands.antt. Of a source or of files that do not tell their bytes it says far less
-//! (docs/PROOFS.md, "The headline").
+//! one (`valid_ranges`), its text in Records.antt of og_output, the lines of faults in Lines.antt of og_faults,
+//! the scripts of `at` and `load` in Commands.antt of og_script. Of a source or of files that do not tell their
+//! bytes it says far less (docs/PROOFS.md, "The headline").
 //!
 //! No tests here: the cases run it, each in many ways, and the gate runs the program over examples/ and
 //! .ci/runs/.
 #![tactic(auto)]
 
 mod answer;
-mod blocks;
-mod calendar;
 mod carry;
 mod changes;
-mod commands;
 mod execute;
-mod fault;
 mod files;
 mod follow;
-mod freeze;
 mod law;
-mod load;
-mod moves;
 mod names;
 mod pieces;
-mod puts;
-mod records;
-mod script;
 mod session;
 mod settle;
-mod source;
 mod step;
 mod valid;
 
 pub use law::{one_defined_run, valid_ranges};
+pub use og_script::MAX_SOURCE;
 pub use session::{run, run_gated};
-pub use source::MAX_SOURCE;

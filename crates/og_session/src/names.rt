@@ -19,9 +19,9 @@ ghost use Rattle.og_db.specs.Held.{known_of, rows_of};
 ghost use Rattle.og_db.specs.Runs.{sizes_at, stored};
 ghost use Rattle.og_db.specs.Statements.{named_rows, named_sizes};
 ghost use Rattle.og_view.specs.Views.{IsLiveQuery};
+ghost use Rattle.og_output.specs.Records.{names_text};
 ghost use Rattle.og_session.specs.Following.{IsChange, IsOnlyWritten};
 ghost use Rattle.og_session.specs.Names.{IsAdded, IsDone};
-ghost use Rattle.og_session.specs.Output.{names_text};
 
 use crate::changes::change_table;
 use crate::follow::follow;

@@ -1,32 +1,29 @@
 //! What a statement writes.
-ghost use Rattle.std.specs.Prelude.{◌≡◌, ◌≤◌, Err, List, IfOk};
-ghost use Rattle.og_base.specs.Told.{Rose};
+ghost use Rattle.std.specs.Prelude.{◌≤◌, List};
 ghost use Rattle.og_par.specs.Limits.{max_workers};
 ghost use Rattle.og_io.specs.declared.sink.PutRefusal.{PutRefusal};
-ghost use Rattle.og_query.specs.Fits.{IsFit, IsFitQuery, Schemas, schemas_of};
+ghost use Rattle.og_query.specs.Fits.{IsFit, IsFitQuery, schemas_of};
 ghost use Rattle.og_query.specs.declared.typed.Typed.{Typed};
 ghost use Rattle.og_query.specs.declared.typed.Typed.TheVariants as t;
 ghost use Rattle.og_db.specs.Held.{Held, known_of};
 ghost use Rattle.og_db.specs.Database.{Relation};
 ghost use Rattle.og_db.specs.Effects.{Effect, on_names};
 ghost use Rattle.og_db.specs.Runs.{IsWorldOf};
-ghost use Rattle.og_session.specs.Counts.{IsFaultCount, is_unput};
+ghost use Rattle.og_faults.specs.Counts.{IsFaultCount, is_unput};
+ghost use Rattle.og_output.specs.Puts.{IsPut};
 ghost use Rattle.og_session.specs.Output.{piece_of};
-ghost use Rattle.og_session.specs.Puts.{IsPut};
 
 use crate::answer::answer;
 use crate::names::Names;
-use crate::puts::{put, put_layout, put_lines};
-use crate::records::names_text;
 use crate::valid::put_valid;
-use og_base::{NoMemory, RefDay};
+use og_base::RefDay;
 use og_db::found_names;
 use og_io::{PutRefusal, Sink};
+use og_output::{names_text, put, put_plan, put_relation};
 use og_par::Gate;
-use og_plan::{fitting_queries, plan_lines, plan_of};
 use og_query::{Query, Typed};
 use og_rel::Tables;
-use og_value::{Catalog, Name, order_of_rows};
+use og_value::{Catalog, Name};
 use std::alloc::Global;
 use std::thread::Threads;
 
@@ -54,7 +51,7 @@ pub fn put_piece<H: Threads + Sync, K: Sink, G: Gate + Sync>(
         Typed::PrintQuery { query, day } => put_query(
             rt, alloc, query, *day, workers, gate, names, out,
         ),
-        Typed::Tables => put(tables_piece(alloc, names)?.as_slice(), out),
+        Typed::Tables => put(names_text(alloc, names.held())?.as_slice(), out),
         Typed::Explain { query } => put_plan(alloc, query, out),
         Typed::Valid { name, day } => put_valid(alloc, name, *day, names, out),
         _ => Ok(()),
@@ -77,7 +74,6 @@ fn put_name<H: Threads + Sync, K: Sink, G: Gate + Sync>(
     ensures put { (files : List (Held Relation)) (before : List Effect) → IsWorldOf names.now.names files before → IsPut (K.written out.old) (K.written out.new) (piece_of before (on_names (t.PrintName name.now day))) result }
     ensures counted { IsFaultCount (is_unput result) (K.faults out.old) (K.faults out.new) }
 {
-    order_of_rows();
     found_names();
     // For its clause: the day is a reference day.
     day.number();
@@ -87,8 +83,7 @@ fn put_name<H: Threads + Sync, K: Sink, G: Gate + Sync>(
     let Some(rel) = names.rel(name.bytes()) else {
         return Ok(());
     };
-    let rows = rel.at_workers(rt, workers, day, gate)?;
-    put_layout(rt, alloc, workers, gate, schema, rows.as_slice(), out)
+    put_relation(rt, alloc, workers, gate, schema, rel, day, out)
 }
 
 // Puts the rows of a query on a day.
@@ -108,42 +103,11 @@ fn put_query<H: Threads + Sync, K: Sink, G: Gate + Sync>(
     ensures put { (files : List (Held Relation)) (before : List Effect) → IsWorldOf names.now.names files before → IsPut (K.written out.old) (K.written out.new) (piece_of before (on_names (t.PrintQuery query.now day))) result }
     ensures counted { IsFaultCount (is_unput result) (K.faults out.old) (K.faults out.new) }
 {
-    order_of_rows();
     found_names();
     names.rows_fit();
     // For its clause: the day is a reference day.
     day.number();
     let rel = answer(rt, alloc, query, names, workers, gate)?;
-    let rows = rel.at_workers(rt, workers, day, gate)?;
-    put_layout(
-        rt,
-        alloc,
-        workers,
-        gate,
-        &query.first.schema,
-        rows.as_slice(),
-        out,
-    )
-}
-
-// The names.
-fn tables_piece(alloc: Global, names: &Names) -> Result<Vec<u8>, NoMemory>
-    ensures { IfOk result (λ text. (files : List (Held Relation)) (before : List Effect) → IsWorldOf names.now.names files before → text.items ≡ piece_of before (on_names t.Tables)) }
-{
-    names_text(alloc, names.held())
-}
-
-// Puts the text of the plan of a query, line by line: the text of a deep plan grows with the square of its
-// depth.
-fn put_plan<K: Sink>(alloc: Global, query: &Query, out: &mut K) -> Result<(), PutRefusal>
-    requires { (schemas : Schemas) × IsFitQuery schemas query.now }
-    ensures put { (before : List Effect) → IsPut (K.written out.old) (K.written out.new) (piece_of before (on_names (t.Explain query.now))) result }
-    ensures counted { IsFaultCount (is_unput result) (K.faults out.old) (K.faults out.new) }
-{
-    fitting_queries();
-    let plan = plan_of(alloc, query)?;
-    let made = plan_lines(alloc, &plan);
-    drop(plan);
-    let lines = made?;
-    put_lines(alloc, lines.as_slice(), out)
+    let schema = &query.first.schema;
+    put_relation(rt, alloc, workers, gate, schema, &rel, day, out)
 }

@@ -3,21 +3,22 @@
 ghost use Rattle.std.specs.Prelude.{◌≡◌, [], ◌∷◌, ℕ, List, Some, OnOk};
 ghost use Rattle.std.specs.Io.KnownBytes.{Appends};
 ghost use Rattle.og_io.specs.Folders.{Folder};
-ghost use Rattle.og_session.specs.Counts.{IsAbsenceCount, IsFaultCount, is_file_fault, is_read_fault, is_unput, is_write_fault};
-ghost use Rattle.og_session.specs.Ends.{Ends, EndsWith, IsEndOf, fault_line, status_of};
+ghost use Rattle.og_faults.specs.Counts.{IsAbsenceCount, IsFaultCount, is_file_fault, is_read_fault, is_unput, is_write_fault};
+ghost use Rattle.og_faults.specs.Faults.{fault_line, status_of};
+ghost use Rattle.og_faults.specs.declared.fault.Fault.{Fault};
+ghost use Rattle.og_faults.specs.declared.stop.Stop.{Stop};
+ghost use Rattle.og_output.specs.Puts.{IsPut};
+ghost use Rattle.og_session.specs.Ends.{Ends, EndsWith, IsEndOf};
 ghost use Rattle.og_session.specs.Headline.{Headline};
-ghost use Rattle.og_session.specs.Puts.{IsPut};
-ghost use Rattle.og_session.specs.Runs.{IsDefinedRun, IsNoCommand, IsRun, IsScriptFault, Run};
-ghost use Rattle.og_session.specs.declared.fault.Fault.{Fault};
-ghost use Rattle.og_session.specs.declared.fault.Stop.{Stop};
+ghost use Rattle.og_session.specs.Runs.{IsDefinedRun, IsRun, Run};
 
 use crate::carry::carry_out;
-use crate::fault::{Fault, Stop, fault_of, status_of};
 use crate::law::one_defined_run;
-use crate::puts::put;
 use og_base::Words;
 use og_db::Db;
-use og_io::{Files, PutRefusal, Sink, Source};
+use og_faults::{Stop, fault_of, status_of};
+use og_io::{Files, Sink, Source};
+use og_output::put_fault;
 use og_par::{Gate, OpenGate};
 use std::alloc::Global;
 use std::thread::Threads;
@@ -28,7 +29,7 @@ use std::thread::Threads;
 /// statement is shared out among as many workers as the words ask for.
 ///
 /// Gives the exit status: 0 all statements ran; 2 the words are no command; 3 the script is too long, has
-/// no tokens, or a statement of it is none that runs; 4 the names, kinds or counts of a statement do not
+/// no tokens, or a statement of it is none of the grammar; 4 the names, kinds or counts of a statement do not
 /// fit; 5 a file is not there or has a fault; 6 the source failed; 7 the files failed; 8 the sink failed;
 /// 9 memory ran out. On 2, 3, 4 and 5 the last line of the output names the fault (docs/LANGUAGE.md,
 /// "Faults"); on 4 and 5 the statements before it were carried out.
@@ -131,18 +132,9 @@ fn run_to_end<H: Threads + Sync, S: Source, K: Sink, F: Files, G: Gate + Sync>(
     let Some(fault) = fault_of(&end) else {
         return end;
     };
-    if let Err(refusal) = report(alloc, fault, out) {
+    if let Err(refusal) = put_fault(alloc, fault, out) {
         drop(end);
         return Err(Stop::from(refusal));
     }
     end
-}
-
-// Writes the line of a fault.
-fn report<K: Sink>(alloc: Global, fault: &Fault, out: &mut K) -> Result<(), PutRefusal>
-    ensures put { IsPut (K.written out.old) (K.written out.new) (fault_line fault.now) result }
-    ensures counted { IsFaultCount (is_unput result) (K.faults out.old) (K.faults out.new) }
-{
-    let line = fault.line(alloc)?;
-    put(line.as_bytes(), out)
 }

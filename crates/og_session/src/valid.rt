@@ -7,20 +7,17 @@ ghost use Rattle.og_db.specs.Database.{Relation};
 ghost use Rattle.og_db.specs.Effects.{Effect, on_names};
 ghost use Rattle.og_db.specs.Held.{Held, known_of};
 ghost use Rattle.og_db.specs.Runs.{IsWorldOf};
-ghost use Rattle.og_session.specs.Counts.{IsFaultCount, is_unput};
+ghost use Rattle.og_faults.specs.Counts.{IsFaultCount, is_unput};
+ghost use Rattle.og_output.specs.Puts.{IsPut};
 ghost use Rattle.og_session.specs.Output.{piece_of, valid_range};
-ghost use Rattle.og_session.specs.Puts.{IsPut};
 
-use crate::calendar::of_calendar;
-use crate::freeze::RowFreezer;
 use crate::names::Names;
-use crate::puts::put;
-use crate::records::range_text;
 use og_base::{DayRange, NoMemory, RefDay};
-use og_db::{fitting_rows, found_names};
+use og_db::found_names;
 use og_io::{PutRefusal, Sink};
+use og_output::{layout_range, put, range_text};
 use og_rel::Tables;
-use og_value::{Name, one_text_a_cell, order_of_rows};
+use og_value::Name;
 use std::alloc::Global;
 
 /// Puts the longest range of days around the day on all of which a PRINT of the name, which is known, writes
@@ -40,22 +37,17 @@ pub fn put_valid<K: Sink>(
     put(range_text(alloc, range)?.as_slice(), out)
 }
 
-// The range. The lists of the name's rows are the same on two days where their layouts are, since a row of
-// the columns' kinds is told by the texts of its values.
+// The range.
 fn range_of(alloc: Global, name: &Name, day: RefDay, names: &Names) -> Result<DayRange, NoMemory>
     requires { IsNamed (known_of names.now.names) name.now }
     ensures { IfOk result (λ range. (files : List (Held Relation)) (before : List Effect) → IsWorldOf names.now.names files before → range ≡ valid_range before name.now day) }
 {
-    order_of_rows();
     found_names();
-    fitting_rows();
-    one_text_a_cell();
     names.rows_fit();
     // For its clause: the day is a reference day.
     day.number();
     let Some(rel) = names.rel(name.bytes()) else {
         unreachable!();
     };
-    of_calendar(rel);
-    og_change::valid_range(alloc, rel, day, &RowFreezer::new(alloc))
+    layout_range(alloc, rel, day)
 }

@@ -1,7 +1,6 @@
 //! The files of a run beside those that its case wants, and beside those of a whole run.
-use crate::case::Case;
-use crate::case_file::{CaseFile, is_named};
 use crate::trial::Outcome;
+use og_case_files::{Case, CaseFile, is_named};
 use og_value::Text;
 
 impl Outcome {

@@ -1,8 +1,7 @@
 //! Runs with devices that fail at each of their calls in turn.
-use crate::case::Case;
-use crate::refusal::Refusal;
 use crate::report::Report;
 use crate::trial::{Outcome, Setting, ran};
+use og_case_files::{Case, Refusal};
 use og_syntax::Stmt;
 use std::thread::Threads;
 

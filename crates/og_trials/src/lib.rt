@@ -1,7 +1,7 @@
-//! Cases: scripts with what a run of each must write, as texts that lie in files (docs/CASES.md).
+//! Cases tried: each script is run, and what it writes is compared with what its case says (docs/CASES.md).
 //!
 //! The crate promises no more than that it is safe and ends. What it finds of a run is a test, and no
-//! proof. `carry_out` reads the files that the words of a program name and runs their cases through the
+//! proof. `carry_out` reads the files of cases that the words of a program name and runs them through the
 //! top call, `run` of og_session, once or in many ways: over devices in memory, of which the files note what
 //! is written to them. In many ways it also compares what `print_script` prints, and has the queries answered
 //! by plans with several workers and by the plain evaluator. The programs og_cases and og_large_cases are this
@@ -12,20 +12,13 @@
 mod answers;
 #[cfg(test)]
 mod calls;
-mod case;
-mod case_file;
 mod ends;
 mod failing;
-mod file;
 #[cfg(test)]
 mod gates;
-mod line;
 mod noted;
-mod piece;
 mod program;
 mod queries;
-mod reckoning;
-mod refusal;
 mod report;
 mod trial;
 mod ways;

@@ -1,8 +1,8 @@
 //! Files in memory that note what is written to them.
 ghost use Rattle.std.specs.Prelude.{◌≡◌};
 
-use crate::case_file::CaseFile;
 use og_base::NoMemory;
+use og_case_files::CaseFile;
 use og_io::{Files, FilesRefusal, Found, MemFiles};
 use og_value::Text;
 use std::alloc::Global;

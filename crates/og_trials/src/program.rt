@@ -1,10 +1,9 @@
 //! A whole program: the files that its words name, their cases, and what came of them.
 ghost use Rattle.std.specs.Prelude.{◌≤◌, IfOk};
 
-use crate::file::Book;
-use crate::refusal::Refusal;
 use crate::report::Report;
 use crate::ways::{Ways, try_case};
+use og_case_files::{Book, Refusal};
 use og_io::Sink;
 use std::alloc::Global;
 use std::env::Env;

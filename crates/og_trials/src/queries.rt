@@ -4,10 +4,9 @@ ghost use Rattle.og_db.specs.Held.{known_of};
 ghost use Rattle.og_query.specs.Fits.{IsFit, IsFitQuery, schemas_of};
 
 use crate::answers::{engine_lines, plain_lines};
-use crate::case::Case;
-use crate::refusal::Refusal;
 use crate::report::Report;
 use og_base::{NoMemory, OngoingRow, RefDay};
+use og_case_files::{Case, Refusal};
 use og_check::{CheckRefusal, check, checked_fits};
 use og_db::Db;
 use og_query::{Query, Typed};

@@ -1,10 +1,8 @@
 //! What came of all runs: their numbers, and a text for each that failed.
 ghost use Rattle.std.specs.Prelude.{◌≤◌, IfOk};
 
-use crate::case::Case;
-use crate::case_file::{After, CaseFile};
-use crate::refusal::Refusal;
 use crate::trial::Outcome;
+use og_case_files::{After, Case, CaseFile, Refusal};
 use std::alloc::Global;
 
 // The most bytes of an output that a text shows.

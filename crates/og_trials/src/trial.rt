@@ -1,9 +1,9 @@
 //! One run of a case.
 ghost use Rattle.std.specs.Prelude.{◌<◌};
 
-use crate::case::Case;
 use crate::noted::NotedFiles;
 use og_base::{NoMemory, Words};
+use og_case_files::Case;
 use og_db::Db;
 use og_io::{MemSink, MemSource};
 use og_session::run;

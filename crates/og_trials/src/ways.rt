@@ -2,13 +2,12 @@
 ghost use Rattle.std.specs.Prelude.{IfOk, IfSome};
 ghost use Rattle.og_print.specs.Printed.{IsPrintable};
 
-use crate::case::Case;
 use crate::failing::{try_files, try_sinks, try_sources};
 use crate::queries::ask_queries;
-use crate::refusal::Refusal;
 use crate::report::Report;
 use crate::trial::{Outcome, Setting, ran};
 use og_base::NoMemory;
+use og_case_files::{Case, Refusal};
 use og_lex::{LexRefusal, lex};
 use og_parse::{ParseRefusal, Script, parse};
 use og_print::print_script;

@@ -2,8 +2,9 @@ use Rattle.std.proofs.Common.{[], Err, ap, sym, subst}
 use Rattle.std.proofs.KnownBytes.{Appends-nil}
 use Rattle.std.proofs.lemmas.Result.{err_from_is_err_and}
 use Rattle.og_words.specs.declared.command.Command.TheVariants as commands
+use Rattle.og_script.specs.Scripts.{IsScriptOf}
 use Rattle.og_session.specs.Ends.{EndsUnreported}
-use Rattle.og_session.specs.Runs.{IsScriptOf, run_from}
+use Rattle.og_session.specs.Runs.{run_from}
 use Rattle.og_session.proofs.EndLemmas.{end_late, end_script, end_words, late_read, run_end, run_words, script_end, words_end}
 use Rattle.og_session.proofs.StateLemmas.{state_at_start}
 use Rattle.og_session.proofs.carry.carry_out.Goals as goal

@@ -5,12 +5,13 @@ use Rattle.std.proofs.lemmas.List.{length-reverse, reverse-reverse}
 use Rattle.std.proofs.lemmas.List.Elements.{recursion_from_All}
 use Rattle.std.proofs.lemmas.Result.{err_from_is_err_and}
 use Rattle.og_db.specs.Runs.{stored}
-use Rattle.og_session.specs.Lives.{IsLiveStmt}
+use Rattle.og_faults.proofs.CountLemmas.{absence_after, fault_after}
+use Rattle.og_script.specs.LiveTexts.{IsLiveStmt}
 use Rattle.og_session.specs.Runs.{run_from}
-use Rattle.og_session.proofs.CountLemmas.{absence_after, fault_after, not_early}
+use Rattle.og_session.proofs.StopLemmas.{not_early}
 use Rattle.og_session.proofs.RunLemmas.{not_begun, turn-last, turn-more, turn-stopped}
 use Rattle.og_session.proofs.StateLemmas.{held_at_start, left_state}
-use Rattle.og_session.proofs.TurnLemmas.{drop-next, left_first}
+use Rattle.og_session.proofs.LeftLemmas.{drop-next, left_first}
 use Rattle.og_session.proofs.carry.run_all.Goals as goal
 
 pub stmts-init : goal.stmts-init

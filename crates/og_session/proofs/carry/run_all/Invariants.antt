@@ -2,8 +2,8 @@
 use Rattle.std.proofs.Common.{◌≡◌, ◌≤◌, Some, drop, reverse}
 use Rattle.std.specs.List.{AllByRecursion}
 use Rattle.og_io.specs.Folders.{Folder}
+use Rattle.og_script.specs.LiveTexts.{IsLiveStmt}
 use Rattle.og_session.specs.Contents.{AreContents, Contents}
-use Rattle.og_session.specs.Lives.{IsLiveStmt}
 use Rattle.og_session.proofs.RunLemmas.{IsAt}
 use Rattle.og_session.proofs.carry.run_all.Given as goal
 

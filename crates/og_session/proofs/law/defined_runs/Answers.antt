@@ -1,5 +1,5 @@
+use Rattle.og_script.proofs.Scripts.{Laws, no_fault}
 use Rattle.og_session.proofs.OneRun.{run_of_no_command, run_of_no_script, run_of_script}
-use Rattle.og_session.proofs.Scripts.{Laws, no_fault}
 use Rattle.og_session.proofs.law.defined_runs.Goals as goal
 
 pub returns : goal.returns

@@ -1,5 +1,5 @@
+use Rattle.og_script.proofs.Scripts.{Choices, Laws, script_or_fault}
 use Rattle.og_session.proofs.OneRun.{one_run, some_run}
-use Rattle.og_session.proofs.Scripts.{Choices, Laws, script_or_fault}
 use Rattle.og_session.proofs.law.one_defined_run.Goals as goal
 
 pub returns : goal.returns

@@ -1,6 +1,6 @@
 use Rattle.std.proofs.Common.{◌≡◌}
 use Rattle.og_session.specs.Output.{printed, valid_range}
-use Rattle.og_session.proofs.SearchLemmas.{one_longest}
+use Rattle.og_output.proofs.LongestLemmas.{one_longest}
 use Rattle.og_session.proofs.ValidLemmas.{printed_longest}
 use Rattle.og_session.proofs.law.valid_ranges.Goals as goal
 

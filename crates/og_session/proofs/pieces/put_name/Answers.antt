@@ -2,17 +2,14 @@ use Rattle.std.proofs.Common.{◌≡◌, Some, None, rules, ap, sym, ◌∙◌, 
 use Rattle.std.specs.Io.KnownBytes.{Appends}
 use Rattle.std.specs.Option.{option_map, option_copied}
 use Rattle.std.proofs.KnownBytes.{Appends-nil}
-use Rattle.std.proofs.lemmas.Result.{err_from_is_err_and}
 use Rattle.og_base.specs.Calendar.{IsRefDay}
 use Rattle.og_value.specs.Order.{row_order}
 use Rattle.og_value.specs.Values.{row_at}
 use Rattle.og_rel.specs.Relations.{relation_at}
 use Rattle.og_db.specs.Database.{Relation}
 use Rattle.og_db.specs.Held.{found, known_of, rows_of}
-use Rattle.og_session.specs.Output.{layout}
-use Rattle.og_session.specs.Puts.{IsPut}
+use Rattle.og_output.specs.Puts.{IsPut}
 use Rattle.og_session.proofs.PieceLemmas.{piece-name, layout-found, layout-unknown}
-use Rattle.og_session.proofs.PutLemmas.{none_of}
 use Rattle.og_session.proofs.pieces.put_name.Goals as goal
 
 pub returns-in_default-clause-put : goal.returns-in_default-clause-put
@@ -29,14 +26,7 @@ returns-clause-put g c files before world =
     let is_day = subst IsRefDay c.number.ensures.value c.number.ensures.range in
     let known : option_map (λ k. k.1) (known_of c.args.names.now.names c.args.name.now) ≡ Some c.in-Some.schema.now = search rules in
     let held : rows_of c.args.names.now.names c.args.name.now ≡ Some c.in-Some-rel.rel.now = search rules in
-    let rows : c.as_slice.result.now ≡ relation_at row_order row_at c.in-Some-rel.rel.now c.args.day =
-    c.as_slice.ensures.value ∙ c.in_ok-rows.ensures ∙ ap (λ cmp. relation_at cmp row_at c.in-Some-rel.rel.now c.args.day) (λ i x y. c.order_of_rows.ensures.order x y i) in
     let piece =
-    ap (layout c.in-Some.schema.now) rows ∙ layout-found on (found c.args.names.now.names c.args.name.now) c.in-Some.schema.now c.in-Some-rel.rel.now known held
+    layout-found on (found c.args.names.now.names c.args.name.now) c.in-Some.schema.now c.in-Some-rel.rel.now known held
     ∙ piece-name c.found_names.ensures.rows c.args.names.now.names files before world c.args.name.now c.args.day is_day in
-    subst (λ t. IsPut (g.K.Sink.written c.args.out.now) (g.K.Sink.written c.put_layout.new.out) t c.put_layout.result) piece c.put_layout.ensures.put
-
-pub returns-in_err-rows-clause-put : goal.returns-in_err-rows-clause-put
-returns-in_err-rows-clause-put g c files before world =
-    let p = err_from_is_err_and c.from_residual.result c.from_residual.ensures.1 in
-    rw (p.1, p.2) (none_of (g.K.Sink.written c.args.out.now) _)
+    subst (λ t. IsPut (g.K.Sink.written c.args.out.now) (g.K.Sink.written c.put_relation.new.out) t c.put_relation.result) piece c.put_relation.ensures.put

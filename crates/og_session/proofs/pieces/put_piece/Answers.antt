@@ -2,9 +2,9 @@ use Rattle.std.proofs.Common.{◌∙◌, sym, subst}
 use Rattle.std.specs.Io.KnownBytes.{Appends}
 use Rattle.std.proofs.KnownBytes.{Appends-nil}
 use Rattle.og_db.specs.Effects.{on_names}
+use Rattle.og_output.specs.Puts.{IsPut}
 use Rattle.og_session.specs.Output.{piece_of}
-use Rattle.og_session.specs.Puts.{IsPut}
-use Rattle.og_session.proofs.PieceLemmas.{others_write_nothing}
+use Rattle.og_session.proofs.PieceLemmas.{others_write_nothing, piece-tables}
 use Rattle.og_session.proofs.pieces.put_piece.Goals as goal
 
 pub returns-in-PrintQuery-clause-put : goal.returns-in-PrintQuery-clause-put
@@ -13,7 +13,7 @@ returns-in-PrintQuery-clause-put g c files before world =
 
 pub returns-in-Explain-clause-put : goal.returns-in-Explain-clause-put
 returns-in-Explain-clause-put g c files before world =
-    subst (λ stmt. IsPut (g.K.Sink.written c.args.out.now) (g.K.Sink.written c.put_plan.new.out) (piece_of before (on_names stmt)) c.put_plan.result) (sym c.in-Explain.is) (c.put_plan.ensures.put before)
+    subst (λ stmt. IsPut (g.K.Sink.written c.args.out.now) (g.K.Sink.written c.put_plan.new.out) (piece_of before (on_names stmt)) c.put_plan.result) (sym c.in-Explain.is) c.put_plan.ensures.put
 
 pub returns-in-Valid-clause-put : goal.returns-in-Valid-clause-put
 returns-in-Valid-clause-put g c files before world =
@@ -29,7 +29,8 @@ pub returns-in-PrintName-clause-put : goal.returns-in-PrintName-clause-put
 returns-in-PrintName-clause-put g c files before world =
     subst (λ stmt. IsPut (g.K.Sink.written c.args.out.now) (g.K.Sink.written c.put_name.new.out) (piece_of before (on_names stmt)) c.put_name.result) (sym c.in-PrintName.is) (c.put_name.ensures.put files before world)
 
-pub returns-in_ok-tables_piece-in-Tables-clause-put : goal.returns-in_ok-tables_piece-in-Tables-clause-put
-returns-in_ok-tables_piece-in-Tables-clause-put g c files before world =
+pub returns-in_ok-names_text-in-Tables-clause-put : goal.returns-in_ok-names_text-in-Tables-clause-put
+returns-in_ok-names_text-in-Tables-clause-put g c files before world =
+    let text = c.as_slice.ensures.value ∙ c.in_ok-names_text-in-Tables.ensures ∙ c.held.ensures ∙ piece-tables c.args.names.now.names files before world in
     subst (λ stmt. IsPut (g.K.Sink.written c.args.out.now) (g.K.Sink.written c.put.new.out) (piece_of before (on_names stmt)) c.put.result) (sym c.in-Tables.is)
-    (subst (λ t. IsPut (g.K.Sink.written c.args.out.now) (g.K.Sink.written c.put.new.out) t c.put.result) (c.as_slice.ensures.value ∙ c.in_ok-tables_piece-in-Tables.ensures files before world) c.put.ensures.put)
+    (subst (λ t. IsPut (g.K.Sink.written c.args.out.now) (g.K.Sink.written c.put.new.out) t c.put.result) text c.put.ensures.put)

@@ -1,16 +1,15 @@
-use Rattle.std.proofs.Common.{◌≡◌, ap, ◌∙◌, subst}
+use Rattle.std.proofs.Common.{subst}
 use Rattle.og_base.specs.Calendar.{IsRefDay}
 use Rattle.og_value.specs.Order.{row_order}
 use Rattle.og_value.specs.Values.{row_at}
 use Rattle.og_rel.specs.Relations.{relation_at}
-use Rattle.og_session.specs.Puts.{IsPut}
+use Rattle.og_output.specs.Puts.{IsPut}
 use Rattle.og_session.proofs.PieceLemmas.{piece-query}
 use Rattle.og_session.proofs.pieces.put_query.Goals as goal
 
 pub returns-clause-put : goal.returns-clause-put
 returns-clause-put g c files before world =
-    let rows : c.as_slice.result.now ≡ relation_at row_order row_at c.in_ok-rel.rel c.args.day =
-    c.as_slice.ensures.value ∙ c.in_ok-rows.ensures ∙ ap (λ cmp. relation_at cmp row_at c.in_ok-rel.rel c.args.day) (λ i x y. c.order_of_rows.ensures.order x y i) in
     let is_day = subst IsRefDay c.number.ensures.value c.number.ensures.range in
-    let piece = piece-query c.found_names.ensures.rows c.args.names.now.names files before world c.args.query.now c.args.day c.as_slice.result.now is_day (rows ∙ c.in_ok-rel.ensures.law c.args.day is_day) in
-    subst (λ t. IsPut (g.K.Sink.written c.args.out.now) (g.K.Sink.written c.put_layout.new.out) t c.put_layout.result) piece c.put_layout.ensures.put
+    let rows = relation_at row_order row_at c.in_ok-rel.rel c.args.day in
+    let piece = piece-query c.found_names.ensures.rows c.args.names.now.names files before world c.args.query.now c.args.day rows is_day (c.in_ok-rel.ensures.law c.args.day is_day) in
+    subst (λ t. IsPut (g.K.Sink.written c.args.out.now) (g.K.Sink.written c.put_relation.new.out) t c.put_relation.result) piece c.put_relation.ensures.put

@@ -1,6 +1,6 @@
 use Rattle.std.proofs.Common.{Result, sym, subst}
+use Rattle.og_faults.specs.declared.stop.Stop.{Stop}
 use Rattle.og_session.specs.Ends.{Ends, EndsUnreported}
-use Rattle.og_session.specs.declared.fault.Stop.{Stop}
 use Rattle.og_session.proofs.EndLemmas.{end_unput, reported, unfaulted, unsaid}
 use Rattle.og_session.proofs.session.run_to_end.Goals as goal
 
@@ -24,5 +24,5 @@ returns-clause-told g c source start run told files defined =
     let folder = g.F.Files.folder c.carry_out-end.new.files in
     let e = c.carry_out-end.ensures.told source start run told files defined in
     let whole = reported run start c.carry_out-end.new.db folder _ _ _ c.in-Some.fault.now
-    (e.0, e.1, subst (λ (r : Result (Unit {0}) Stop). EndsUnreported run start c.carry_out-end.new.db folder e.0 r) c.in-Some.ensures.fault e.2) c.in_default-report.ensures.put in
+    (e.0, e.1, subst (λ (r : Result (Unit {0}) Stop). EndsUnreported run start c.carry_out-end.new.db folder e.0 r) c.in-Some.ensures.fault e.2) c.in_default-put_fault.ensures.put in
     (whole.0, whole.1, subst (λ (r : Result (Unit {0}) Stop). Ends run start c.carry_out-end.new.db folder whole.0 r) (sym c.in-Some.ensures.fault) whole.2)

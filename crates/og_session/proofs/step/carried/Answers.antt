@@ -1,9 +1,10 @@
 use Rattle.std.proofs.Common.{◌≡◌, ap, sym, subst, Ok, Err}
 use Rattle.og_check.specs.Statements.{checked}
 use Rattle.og_db.specs.Held.{known_of}
+use Rattle.og_faults.proofs.CountLemmas.{check_counted}
 use Rattle.og_session.specs.Contents.{outcome_of}
 use Rattle.og_session.specs.Ends.{StepEnds}
-use Rattle.og_session.proofs.CountLemmas.{check_counted, check_stopped}
+use Rattle.og_session.proofs.StopLemmas.{check_stopped}
 use Rattle.og_session.proofs.StateLemmas.{left_state}
 use Rattle.og_session.proofs.StepLemmas.{check-stopped, typed_live}
 use Rattle.og_session.proofs.step.carried.Goals as goal

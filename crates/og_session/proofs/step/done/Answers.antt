@@ -2,7 +2,7 @@ use Rattle.std.proofs.Common.{[], sym, subst}
 use Rattle.std.proofs.KnownBytes.{Appends-nil}
 use Rattle.og_session.specs.Contents.{effect_of, taken}
 use Rattle.og_session.specs.Ends.{StepEnds}
-use Rattle.og_session.proofs.CountLemmas.{step_by_put}
+use Rattle.og_session.proofs.StopLemmas.{step_by_put}
 use Rattle.og_session.proofs.StepLemmas.{effect-names, of_names}
 use Rattle.og_session.proofs.step.done.Goals as goal
 

@@ -1,8 +1,9 @@
 use Rattle.std.proofs.Common.{refl}
 use Rattle.std.proofs.lemmas.Result.{err_from_is_err_and}
 use Rattle.og_db.specs.Effects.{on_names}
+use Rattle.og_faults.proofs.CountLemmas.{put_counted}
 use Rattle.og_session.specs.Output.{piece_of}
-use Rattle.og_session.proofs.CountLemmas.{put_counted, put_stopped}
+use Rattle.og_session.proofs.StopLemmas.{put_stopped}
 use Rattle.og_session.proofs.StateLemmas.{left_state}
 use Rattle.og_session.proofs.StepLemmas.{put-stopped, execute-stopped}
 use Rattle.og_session.proofs.step.on_names.Goals as goal

@@ -1,9 +1,10 @@
 use Rattle.std.proofs.Common.{◌++◌, ap, subst, sym, ◌∙◌}
 use Rattle.std.specs.Option.{option_to_list}
+use Rattle.og_script.specs.LiveTexts.{IsLiveStmt}
 use Rattle.og_session.specs.Contents.{outcome}
 use Rattle.og_session.specs.Ends.{StepEnds}
-use Rattle.og_session.specs.Lives.{IsLiveStmt}
-use Rattle.og_session.proofs.TurnLemmas.{reverse-last, same_first, same_rest}
+use Rattle.og_script.proofs.TurnLemmas.{reverse-last}
+use Rattle.og_session.proofs.LeftLemmas.{same_first, same_rest}
 use Rattle.og_session.proofs.step.step.Goals as goal
 
 pub carried-requires-clause-live : goal.carried-requires-clause-live

@@ -1,6 +1,6 @@
 use Rattle.std.proofs.Common.{◌∙◌, ap, subst}
-use Rattle.og_session.specs.Output.{range_records}
-use Rattle.og_session.specs.Puts.{IsPut}
+use Rattle.og_output.specs.Records.{range_records}
+use Rattle.og_output.specs.Puts.{IsPut}
 use Rattle.og_session.proofs.valid.put_valid.Goals as goal
 
 pub returns-clause-put : goal.returns-clause-put

@@ -1,5 +1,5 @@
 use Rattle.std.proofs.Common.{◌∙◌, ap}
-use Rattle.og_session.specs.Output.{names_text}
+use Rattle.og_output.specs.Records.{names_text}
 use Rattle.og_session.proofs.NameLemmas.{names_text-shown}
 use Rattle.og_session.proofs.names.Names.held.Goals as goal
 

@@ -1,0 +1,5 @@
+pub mod Counts
+pub mod Faults
+pub mod Lines
+pub mod Refusals
+pub mod Stops

@@ -1,0 +1,5 @@
+pub mod LayoutLemmas
+pub mod LongestLemmas
+pub mod PutLemmas
+pub mod RangeLemmas
+pub mod RecordLemmas

@@ -1,0 +1,3 @@
+pub mod Calendars
+pub mod Puts
+pub mod Records

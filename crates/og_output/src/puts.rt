@@ -1,0 +1,183 @@
+//! Pieces of output, put into a sink.
+ghost use Rattle.std.specs.Prelude.{◌≡◌, ◌≤◌, map};
+ghost use Rattle.std.specs.List.{flat_map};
+ghost use Rattle.og_par.specs.Limits.{max_workers};
+ghost use Rattle.og_value.specs.Cells.{fixed_text};
+ghost use Rattle.og_value.specs.Order.{row_order};
+ghost use Rattle.og_value.specs.Values.{row_at};
+ghost use Rattle.og_rel.specs.Relations.{relation_at};
+ghost use Rattle.og_query.specs.Fits.{IsFitQuery, Schemas};
+ghost use Rattle.og_plan.specs.PlanOf.{plan_of};
+ghost use Rattle.og_plan.specs.Text.{line_text, plan_text};
+ghost use Rattle.og_faults.specs.Counts.{IsFaultCount, is_unput};
+ghost use Rattle.og_faults.specs.Faults.{fault_line};
+ghost use Rattle.og_output.specs.Puts.{IsPut};
+ghost use Rattle.og_output.specs.Records.{layout, records};
+
+use crate::blocks::{BLOCK, BlockText, blocks_of};
+use crate::records::header_text;
+use og_base::RefDay;
+use og_faults::Fault;
+use og_io::{PutRefusal, Sink};
+use og_par::{Gate, par_rows};
+use og_plan::{PlanLine, fitting_queries, plan_lines, plan_of};
+use og_query::Query;
+use og_rel::Rel;
+use og_value::{FixedRow, Row, Schema, order_of_rows};
+use std::alloc::Global;
+use std::thread::Threads;
+
+// How many rows a round has for each of several workers. One alone has a block in each round.
+const SHARE: usize = 8 * BLOCK;
+
+/// Puts the piece, where it is not empty.
+pub fn put<K: Sink>(piece: &[u8], out: &mut K) -> Result<(), PutRefusal>
+    ensures put { IsPut (K.written out.old) (K.written out.new) piece.now result }
+    ensures counted { IsFaultCount (is_unput result) (K.faults out.old) (K.faults out.new) }
+{
+    if piece.is_empty() {
+        return Ok(());
+    }
+    out.put(piece)
+}
+
+/// Puts the rows of the relation on the day as a PRINT writes them: a record of the columns' names, then one of
+/// the texts of each row's values. Workers, 1 to `MAX_WORKERS` of og_par, make the text block by block, some
+/// blocks in each round, so that it never stands in memory whole.
+pub fn put_relation<H: Threads + Sync, K: Sink, G: Gate + Sync>(
+    rt: &H,
+    alloc: Global,
+    workers: usize,
+    gate: &G,
+    columns: &Schema,
+    rel: &Rel<Row>,
+    day: RefDay,
+    out: &mut K,
+) -> Result<(), PutRefusal>
+    requires least { 1 ≤ workers }
+    requires most { workers ≤ max_workers }
+    ensures put { IsPut (K.written out.old) (K.written out.new) (layout columns.now (relation_at row_order row_at rel.now day)) result }
+    ensures counted { IsFaultCount (is_unput result) (K.faults out.old) (K.faults out.new) }
+{
+    order_of_rows();
+    let rows = rel.at_workers(rt, workers, day, gate)?;
+    put_layout(rt, alloc, workers, gate, columns, rows.as_slice(), out)
+}
+
+// Puts the record of the columns' names, and those of the rows.
+fn put_layout<H: Threads + Sync, K: Sink, G: Gate + Sync>(
+    rt: &H,
+    alloc: Global,
+    workers: usize,
+    gate: &G,
+    columns: &Schema,
+    rows: &[FixedRow],
+    out: &mut K,
+) -> Result<(), PutRefusal>
+    requires least { 1 ≤ workers }
+    requires most { workers ≤ max_workers }
+    ensures put { IsPut (K.written out.old) (K.written out.new) (layout columns.now rows.now) result }
+    ensures counted { IsFaultCount (is_unput result) (K.faults out.old) (K.faults out.new) }
+{
+    let header = header_text(alloc, columns)?;
+    put(header.as_slice(), out)?;
+    put_rows(rt, alloc, workers, gate, rows, out)
+}
+
+// Puts the records of the rows, those of a round after the other.
+fn put_rows<H: Threads + Sync, K: Sink, G: Gate + Sync>(
+    rt: &H,
+    alloc: Global,
+    workers: usize,
+    gate: &G,
+    rows: &[FixedRow],
+    out: &mut K,
+) -> Result<(), PutRefusal>
+    requires least { 1 ≤ workers }
+    requires most { workers ≤ max_workers }
+    ensures put { IsPut (K.written out.old) (K.written out.new) (records (map (map fixed_text) rows.now)) result }
+    ensures counted { IsFaultCount (is_unput result) (K.faults out.old) (K.faults out.new) }
+{
+    let round = if workers == 1 { BLOCK } else { workers * SHARE };
+    let mut rest = rows;
+    'cuts: while !rest.is_empty() {
+        let (first, later) = rest.split_at(rest.len().min(round));
+        put_round(rt, alloc, workers, gate, first, out)?;
+        rest = later;
+    }
+    Ok(())
+}
+
+// Puts the records of the rows of a round, block by block.
+fn put_round<H: Threads + Sync, K: Sink, G: Gate + Sync>(
+    rt: &H,
+    alloc: Global,
+    workers: usize,
+    gate: &G,
+    rows: &[FixedRow],
+    out: &mut K,
+) -> Result<(), PutRefusal>
+    requires least { 1 ≤ workers }
+    requires most { workers ≤ max_workers }
+    ensures put { IsPut (K.written out.old) (K.written out.new) (records (map (map fixed_text) rows.now)) result }
+    ensures counted { IsFaultCount (is_unput result) (K.faults out.old) (K.faults out.new) }
+{
+    let blocks = blocks_of(alloc, rows)?;
+    let texts = par_rows(rt, alloc, workers, blocks.as_slice(), &BlockText, gate)?;
+    put_texts(texts.as_slice(), out)
+}
+
+// Puts the texts, one after the other.
+fn put_texts<K: Sink>(texts: &[Vec<u8>], out: &mut K) -> Result<(), PutRefusal>
+    ensures put { IsPut (K.written out.old) (K.written out.new) (flat_map (λ text. text.items) texts.now) result }
+    ensures counted { IsFaultCount (is_unput result) (K.faults out.old) (K.faults out.new) }
+{
+    'texts: for text in texts {
+        put(text.as_slice(), out)?;
+    }
+    Ok(())
+}
+
+/// Puts the text of the plan of the query, which fits, line by line: the text of a deep plan grows with the square
+/// of its depth.
+pub fn put_plan<K: Sink>(alloc: Global, query: &Query, out: &mut K) -> Result<(), PutRefusal>
+    requires { (schemas : Schemas) × IsFitQuery schemas query.now }
+    ensures put { IsPut (K.written out.old) (K.written out.new) (plan_text (plan_of query.now)) result }
+    ensures counted { IsFaultCount (is_unput result) (K.faults out.old) (K.faults out.new) }
+{
+    fitting_queries();
+    let plan = plan_of(alloc, query)?;
+    let made = plan_lines(alloc, &plan);
+    drop(plan);
+    let lines = made?;
+    put_lines(alloc, lines.as_slice(), out)
+}
+
+// Puts the lines of a plan, one after the other.
+fn put_lines<K: Sink>(alloc: Global, lines: &[PlanLine], out: &mut K) -> Result<(), PutRefusal>
+    ensures put { IsPut (K.written out.old) (K.written out.new) (flat_map line_text lines.now) result }
+    ensures counted { IsFaultCount (is_unput result) (K.faults out.old) (K.faults out.new) }
+{
+    'lines: for line in lines {
+        put_line(alloc, line, out)?;
+    }
+    Ok(())
+}
+
+// Puts a line of a plan.
+fn put_line<K: Sink>(alloc: Global, line: &PlanLine, out: &mut K) -> Result<(), PutRefusal>
+    ensures put { IsPut (K.written out.old) (K.written out.new) (line_text line.now) result }
+    ensures counted { IsFaultCount (is_unput result) (K.faults out.old) (K.faults out.new) }
+{
+    let text = line.text(alloc)?;
+    put(text.as_slice(), out)
+}
+
+/// Puts the line of the fault.
+pub fn put_fault<K: Sink>(alloc: Global, fault: &Fault, out: &mut K) -> Result<(), PutRefusal>
+    ensures put { IsPut (K.written out.old) (K.written out.new) (fault_line fault.now) result }
+    ensures counted { IsFaultCount (is_unput result) (K.faults out.old) (K.faults out.new) }
+{
+    let line = fault.line(alloc)?;
+    put(line.as_bytes(), out)
+}

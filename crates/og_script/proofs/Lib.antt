@@ -1,0 +1,5 @@
+pub mod CommandLemmas
+pub mod LiveScripts
+pub mod ScriptLemmas
+pub mod Scripts
+pub mod TurnLemmas

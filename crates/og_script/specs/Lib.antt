@@ -1,0 +1,5 @@
+pub mod Commands
+pub mod LiveTexts
+pub mod Reading
+pub mod Scripts
+pub mod Stops

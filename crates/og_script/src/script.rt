@@ -1,0 +1,83 @@
+//! The script of a command.
+ghost use Rattle.std.specs.Prelude.{◌≡◌, ◌≤◌, [], ℕ, List, false, Some, IfOk, IfErr, length};
+ghost use Rattle.std.specs.List.{All};
+ghost use Rattle.og_par.specs.Limits.{max_workers};
+ghost use Rattle.og_words.specs.Grammar.{IsCommand};
+ghost use Rattle.og_words.specs.declared.command.Command.TheVariants as commands;
+ghost use Rattle.og_faults.specs.Counts.{IsFaultCount, is_read_fault};
+ghost use Rattle.og_script.specs.Stops.{IsRunCommand, IsScriptStop, IsSourceOf, IsStopBefore};
+ghost use Rattle.og_script.specs.LiveTexts.{IsLiveStmt};
+ghost use Rattle.og_script.specs.Scripts.{IsScript, IsScriptOf, max_source};
+
+use crate::commands::{at_statements, load_statements};
+use crate::source::read_source;
+use og_faults::Stop;
+use og_io::Source;
+use og_lex::lex;
+use og_parse::parse;
+use og_syntax::Stmt;
+use og_words::Command;
+use sqlite_items::Items;
+use std::alloc::Global;
+
+/// How many workers the command asks for.
+pub fn workers_of(command: &Command) -> usize
+    requires { (words : List (List ℕ)) × IsCommand words command.now }
+    ensures least { 1 ≤ result }
+    ensures most { result ≤ max_workers }
+{
+    match command {
+        Command::Run { workers } => usize::from(*workers),
+        Command::At { .. } => 1,
+        Command::Load { workers, .. } => usize::from(*workers),
+    }
+}
+
+/// The statements that the command runs: for `run` those of the source, which is read to its end.
+pub fn script_of<S: Source>(
+    alloc: Global,
+    command: Command,
+    src: &mut S,
+) -> Result<Items<Stmt>, Stop>
+    requires { (words : List (List ℕ)) × IsCommand words command }
+    ensures script { (source : List ℕ) → IsSourceOf command (S.left src.old) source → IfOk result (IsScriptOf command source) }
+    ensures live { IfOk result (All IsLiveStmt) }
+    ensures stopped { (source : List ℕ) → IsSourceOf command (S.left src.old) source → IfErr result (IsScriptStop source) }
+    ensures stops { IfErr result (IsStopBefore command) }
+    ensures drained { (source : List ℕ) → IsRunCommand command → S.left src.old ≡ Some source → IfOk result (λ _. S.left src.new ≡ Some []) }
+    ensures untouched { ¬ IsRunCommand command → src.new ≡ src.old }
+    ensures reads { IsFaultCount (is_read_fault result) (S.faults src.old) (S.faults src.new) }
+{
+    match command {
+        Command::Run { .. } => read_script(alloc, src),
+        Command::At { file, day } => Ok(at_statements(alloc, file, day)?),
+        Command::Load { rows, .. } => Ok(load_statements(alloc, rows)?),
+    }
+}
+
+// The statements of the source, which is read to its end.
+fn read_script<S: Source>(alloc: Global, src: &mut S) -> Result<Items<Stmt>, Stop>
+    ensures script { (source : List ℕ) → S.left src.old ≡ Some source → IfOk result (IsScript source) }
+    ensures live { IfOk result (All IsLiveStmt) }
+    ensures stopped { (source : List ℕ) → S.left src.old ≡ Some source → IfErr result (IsScriptStop source) }
+    ensures stops { (workers : ℕ) → IfErr result (IsStopBefore (commands.Run workers)) }
+    ensures drained { (source : List ℕ) → S.left src.old ≡ Some source → IfOk result (λ _. S.left src.new ≡ Some []) }
+    ensures reads { IsFaultCount (is_read_fault result) (S.faults src.old) (S.faults src.new) }
+{
+    let bytes = read_source(alloc, src)?;
+    tree_of(alloc, bytes.as_slice())
+}
+
+// The statements of the bytes.
+fn tree_of(alloc: Global, bytes: &[u8]) -> Result<Items<Stmt>, Stop>
+    requires { length bytes.now ≤ max_source }
+    ensures script { IfOk result (IsScript bytes.now) }
+    ensures live { IfOk result (All IsLiveStmt) }
+    ensures stopped { IfErr result (IsScriptStop bytes.now) }
+    ensures stops { (workers : ℕ) → IfErr result (IsStopBefore (commands.Run workers)) }
+    ensures read { is_read_fault result ≡ false }
+{
+    let tokens = lex(alloc, bytes)?;
+    let script = parse(alloc, bytes, tokens.as_slice())?;
+    Ok(script.stmts)
+}

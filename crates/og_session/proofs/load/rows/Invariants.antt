@@ -1,6 +1,0 @@
-use Rattle.std.proofs.Common.{◌≡◌}
-use Rattle.og_session.specs.Commands.{load_rows}
-use Rattle.og_session.proofs.load.rows.Given as goal
-
-abbrev pub invariant-rows : goal.invariant-rows
-invariant-rows l = l.rows.items ≡ load_rows l.side l.i
