@@ -1,5 +1,5 @@
 -- The value at a place of a row of one day.
-use Rattle.std.proofs.Common.{◌≡◌, ℕ, ℤ, Option, Some, None, IfSome, List, slice_get, slice_index_or, sym, ap, ◌∙◌}
+use Rattle.std.proofs.Common.{◌≡◌, ℕ, ℤ, Some, None, List, slice_get, slice_index_or, sym, ap, ◌∙◌}
 use Rattle.std.specs.Option.{option_map, unwrap_or}
 use Rattle.std.proofs.lemmas.Option.{slice_get-map, unwrap_or-slice_get}
 use Rattle.og_value.specs.declared.value.Value.{Value}
@@ -19,9 +19,3 @@ module _ (values : List Value) (place : ℕ) (d : ℤ) where
   -- where none does
   pub no_value_there : slice_get values place ≡ None → no_value ≡ slice_index_or (row_at values d) place no_value
   no_value_there is = sym (at_place ∙ ap (λ o. unwrap_or (option_map (λ w. value_at w d) o) no_value) is)
-
--- a value that is found at the place is what the row has there on each day
-pub found_value : {B : Type 0} (now : B → Value) (values : List Value) (place : ℕ) (found : Option B) → option_map now found ≡ slice_get values place
-    → (P : ℤ → Type 0) → IfSome found (λ v. (d : ℤ) → P d → value_at (now v) d ≡ slice_index_or (row_at values d) place no_value)
-found_value now values place (Some v) is P = λ d day. some_value values place d (now v) (sym is)
-found_value now values place None is P = tt

@@ -1,15 +1,14 @@
 //! Whether a condition may hold on some day: a test that takes no memory and tells most pairs apart.
-ghost use Rattle.std.specs.Prelude.{◌≡◌, ◌≤ℤ◌, ℤ, false, IfSome};
-ghost use Rattle.og_base.specs.Calendar.{IsRefDay};
-ghost use Rattle.og_base.specs.declared.range.FixedPeriod.{FixedPeriod};
-ghost use Rattle.og_value.specs.Values.{value_at, row_at};
-ghost use Rattle.og_query.specs.Conditions.{compares, relates, relation_of, truth};
-ghost use Rattle.og_query.specs.Expressions.{meaning};
+ghost use Rattle.std.specs.Prelude.{◌≡◌};
 ghost use Rattle.std.specs.List.{list_all, list_any};
+ghost use Rattle.std.specs.Option.{option_map};
+ghost use Rattle.og_time.specs.Period.{Period};
+ghost use Rattle.og_expr.specs.Bounds as meant;
 
 use crate::columns::Columns;
 use og_base::FixedPeriod;
 use og_query::{Cond, Expr, allows};
+use og_time::OngoingPeriod;
 use og_value::{Cmp, Pred, Value};
 use sqlite_items::Items;
 
@@ -17,20 +16,20 @@ use sqlite_items::Items;
 // compared as they are, and periods by what is round their values on all days.
 #[cycle(bounds)]
 pub(crate) fn may_hold(cond: &Cond, columns: &Columns<'_>) -> bool
-    ensures { result ≡ false → (d : ℤ) → IsRefDay d → truth d (row_at columns.now d) cond.now ≡ false }
+    ensures { result ≡ meant.may_hold columns.now cond.now }
 {
     match cond {
         Cond::And(parts) => all_may_hold(parts, &*columns),
         Cond::Or(parts) => any_may_hold(parts, &*columns),
         Cond::Not(_) | Cond::Empty(_) | Cond::Contains(..) => true,
         Cond::Compare { op, left, right } => {
-            match (at_hand(left, &*columns), at_hand(right, &*columns)) {
+            match (known(left, &*columns), known(right, &*columns)) {
                 (Some(left), Some(right)) => may_compare(*op, left, right),
                 _ => true,
             }
         }
         Cond::Relate { pred, left, right } => {
-            match (at_hand(left, &*columns), at_hand(right, &*columns)) {
+            match (known(left, &*columns), known(right, &*columns)) {
                 (Some(left), Some(right)) => may_relate(*pred, left, right),
                 _ => true,
             }
@@ -41,7 +40,7 @@ pub(crate) fn may_hold(cond: &Cond, columns: &Columns<'_>) -> bool
 // Whether each of the conditions may hold of the columns.
 #[cycle(bounds)]
 pub(crate) fn all_may_hold(parts: &Items<Cond>, columns: &Columns<'_>) -> bool
-    ensures { result ≡ false → (d : ℤ) → IsRefDay d → list_all (truth d (row_at columns.now d)) parts.now ≡ false }
+    ensures { result ≡ list_all (meant.may_hold columns.now) parts.now }
 {
     'parts: for part in parts.as_slice() {
         if !may_hold(part, &*columns) {
@@ -54,7 +53,7 @@ pub(crate) fn all_may_hold(parts: &Items<Cond>, columns: &Columns<'_>) -> bool
 // Whether one of the conditions may hold of the columns.
 #[cycle(bounds)]
 fn any_may_hold(parts: &Items<Cond>, columns: &Columns<'_>) -> bool
-    ensures { result ≡ false → (d : ℤ) → IsRefDay d → list_any (truth d (row_at columns.now d)) parts.now ≡ false }
+    ensures { result ≡ list_any (meant.may_hold columns.now) parts.now }
 {
     'parts: for part in parts.as_slice() {
         if may_hold(part, &*columns) {
@@ -65,8 +64,8 @@ fn any_may_hold(parts: &Items<Cond>, columns: &Columns<'_>) -> bool
 }
 
 // The value of an expression that is a column or a literal; None of a call.
-fn at_hand<'a>(expr: &'a Expr, columns: &Columns<'a>) -> Option<&'a Value>
-    ensures { IfSome result (λ v. (d : ℤ) → IsRefDay d → value_at v.now d ≡ meaning d (row_at columns.now d) expr.now) }
+fn known<'a>(expr: &'a Expr, columns: &Columns<'a>) -> Option<&'a Value>
+    ensures { option_map (λ v. v.now) result ≡ meant.known columns.now expr.now }
 {
     match expr {
         Expr::Column(place) => columns.get(*place),
@@ -77,7 +76,7 @@ fn at_hand<'a>(expr: &'a Expr, columns: &Columns<'a>) -> Option<&'a Value>
 
 // Whether the values may compare so.
 fn may_compare(op: Cmp, left: &Value, right: &Value) -> bool
-    ensures { result ≡ false → (d : ℤ) → IsRefDay d → compares op (value_at left.now d) (value_at right.now d) ≡ false }
+    ensures { result ≡ meant.may_compare op left.now right.now }
 {
     match (left, right) {
         (Value::Int(m), Value::Int(n)) => allows(op, m.cmp(n)),
@@ -89,19 +88,26 @@ fn may_compare(op: Cmp, left: &Value, right: &Value) -> bool
 
 // Whether the values may be periods in this relation.
 fn may_relate(pred: Pred, left: &Value, right: &Value) -> bool
-    ensures { result ≡ false → (d : ℤ) → IsRefDay d → relates pred (value_at left.now d) (value_at right.now d) ≡ false }
+    ensures { result ≡ meant.may_relate pred left.now right.now }
 {
     match (left, right) {
-        (Value::Period(i), Value::Period(j)) => may_stand(pred, i.outer(), j.outer()),
+        (Value::Period(i), Value::Period(j)) => may_stand(pred, outer(*i), outer(*j)),
         _ => false,
     }
+}
+
+// The fixed period round the values of a period on all days.
+fn outer(period: OngoingPeriod) -> FixedPeriod
+    ensures { result ≡ meant.outer period }
+{
+    period.ordered();
+    period.outer()
 }
 
 // Whether periods inside these two may stand in this relation. In any relation the first begins before
 // the second ends, and but for BEFORE and MEETS the second begins before the first ends.
 fn may_stand(pred: Pred, first: FixedPeriod, second: FixedPeriod) -> bool
-    ensures { result ≡ false → (p q : FixedPeriod) → first.start ≤ℤ p.start → p.end ≤ℤ first.end → second.start ≤ℤ q.start → q.end ≤ℤ second.end →
-        relation_of pred p q ≡ false }
+    ensures { result ≡ meant.may_stand pred first second }
 {
     if first.start >= second.end {
         return false;

@@ -1,10 +1,12 @@
-use Rattle.std.proofs.Common.{◌∙◌, ap, sym}
+use Rattle.std.proofs.Common.{◌++◌, ◌∙◌, ap, sym}
 use Rattle.std.specs.List.{list_all}
 use Rattle.std.proofs.lemmas.List.{map-append}
 use Rattle.og_value.specs.Values.{value_at}
 use Rattle.og_query.specs.Conditions.{truth}
+use Rattle.og_expr.proofs.BoundLemmas.{never_all}
 use Rattle.og_expr.proofs.conditions.PartDaysDayCondRow.may_hold.Goals as goal
 
 pub returns : goal.returns
 returns c never d day =
-    ap (λ row. list_all (truth d row) c.args.self.now.parts.now) (sym (map-append (λ v. value_at v d) c.args.left.now c.args.right.now)) ∙ c.all_may_hold.ensures never d day
+    ap (λ row. list_all (truth d row) c.args.self.now.parts.now) (sym (map-append (λ v. value_at v d) c.args.left.now c.args.right.now))
+    ∙ never_all (c.args.left.now ++ c.args.right.now) d c.args.self.now.parts.now (sym c.all_may_hold.ensures ∙ never)

@@ -1,0 +1,66 @@
+//! Conditions as tests of single rows.
+ghost use Rattle.std.specs.Prelude.{◌≡◌, ℤ, false, List};
+ghost use Rattle.og_base.specs.Calendar.{IsRefDay};
+ghost use Rattle.og_value.specs.Values.{row_at};
+ghost use Rattle.og_value.specs.declared.value.Value as values;
+ghost use Rattle.og_query.specs.Conditions.{truth};
+ghost use Rattle.og_query.specs.declared.condition.Cond as conds;
+ghost use Rattle.og_expr.specs.Bounds as meant;
+
+use crate::bounds::may_hold;
+use crate::columns::Columns;
+use og_query::Cond;
+use og_value::Row;
+use std::alloc::Global;
+use std::marker::Model;
+
+/// A condition as a test of single rows: whether it may hold of a row on some day. Seen as the condition.
+#[derive(Drop)]
+pub struct RowBounds<'c> {
+    cond: &'c Cond,
+    // The row without values, which stands beside each row.
+    none: Row,
+}
+
+impl<'c> Model for RowBounds<'c> {
+    ghost use Rattle.std.specs.Coded.{codes};
+    ghost use Rattle.std.specs.Prelude.{◌≡◌, []};
+    ghost use Rattle.og_query.specs.contracts.condition.Cond as c;
+    ghost use Rattle.og_query.specs.declared.condition.Cond.{Cond as OneCond};
+
+    ghost Value = { OneCond };
+
+    ghost coded = { Prim.hlevel (codes, c.the_row.coded) };
+
+    ghost view = { λ b. b.cond.now };
+
+    ghost invariant = { λ b. b.none ≡ [] };
+}
+
+impl<'c> RowBounds<'c> {
+    /// The condition as a test. Takes no memory.
+    pub fn new(alloc: Global, cond: &'c Cond) -> RowBounds<'c>
+        ensures { result ≡ cond.now }
+    {
+        RowBounds {
+            cond,
+            none: Row::of(Vec::new(alloc)),
+        }
+    }
+
+    /// Whether the condition may hold of the row; where not, it holds of it on no day. Takes no memory.
+    pub fn may_hold(&self, row: &Row) -> bool
+        ensures exact { result ≡ meant.may_hold row.now self.now }
+    {
+        let columns = Columns {
+            left: row,
+            right: &self.none,
+        };
+        may_hold(self.cond, &columns)
+    }
+}
+
+/// A condition that may not hold of a row holds of it on no day.
+pub fn bounds_hold()
+    ensures { (row : List values.Value) (cond : conds.Cond) → meant.may_hold row cond ≡ false → (d : ℤ) → IsRefDay d → truth d (row_at row d) cond ≡ false }
+{}
