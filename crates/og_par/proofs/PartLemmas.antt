@@ -1,4 +1,4 @@
--- The parts that several workers made: one more part, and that the parts made of the chunks of a list are made of the list.
+-- The parts that several workers made: one more part, and that the parts made of the chunks of a list, or of its items, are made of the list.
 use Rattle.std.proofs.Common.{◌≡◌, Bool, false, eqb, true≢false, ◌++◌, ◌+◌, ◌*◌, ◌<◌, ◌≤◌, ℕ, zero, suc, List, [], ◌∷◌, length, get_or, take, drop, refl, sym, ap, ◌∙◌, subst, arith, IfOk}
 use Rattle.std.specs.Prelude.{Result, Ok, Err, Vec}
 use Rattle.std.specs.declared.alloc.Global.{Global}
@@ -7,6 +7,8 @@ use Rattle.std.proofs.Math.Seq.{drop-nil}
 use Rattle.std.proofs.lemmas.Grind.{div_ceil_times}
 use Rattle.std.specs.Int.{div_ceil}
 use Rattle.og_base.specs.declared.memory.NoMemory.{NoMemory}
+use denote.Param.Members.{Shared}
+use Rattle.og_par.specs.Handed.{MakesOf}
 use Rattle.og_par.specs.Phase.{MadeOfEach}
 use Rattle.og_par.specs.Parts.{JoinsAll}
 use Rattle.og_par.proofs.PhaseLemmas.{MadeOfEach-append}
@@ -54,6 +56,23 @@ module _ {T X : Type 0} (gives : T → List X → Type 0) (size : ℕ) where
     where
       shorter : (n : ℕ) → length xs ≤ suc n * size → length (drop size xs) ≤ n * size
       shorter n h = rw (length-drop size xs) (grind (arith, h))
+
+-- each part is what a call with its item may give
+abbrev pub AreOfItems : {F T X : Type 0} → Shared F (T × Unit {0}) (Result (Vec X Global) NoMemory) → F → List T → List (Result (Vec X Global) NoMemory) → Type 0
+AreOfItems {T = T} {X = X} g f xs parts =
+    (n : ℕ) (d : Result (Vec X Global) NoMemory) → n < length xs → (x : T) × ((e : T) → get_or xs n e ≡ x) × g.post f (x, tt) (get_or parts n d)
+
+-- parts of all items, joined, are made of the whole
+pub MadeOfEach-items : {F T X : Type 0} (g : Shared F (T × Unit {0}) (Result (Vec X Global) NoMemory)) (f : F) (xs : List T) (parts : List (Result (Vec X Global) NoMemory)) (all : List X)
+    → AreOfItems g f xs parts → length parts ≡ length xs → JoinsAll parts all → MadeOfEach (MakesOf g f) xs all
+MadeOfEach-items g f [] [] all each len joined = joined
+MadeOfEach-items g f [] (part ∷ parts) all each len joined = absurd (omega (arith, len))
+MadeOfEach-items g f (x ∷ xs) [] all each len joined = absurd (omega (arith, len))
+MadeOfEach-items g f (x ∷ xs) (Err e ∷ parts) all each len joined = absurd joined
+MadeOfEach-items g f (x ∷ xs) (Ok v ∷ parts) all each len joined =
+    let first = each 0 (Ok v) (omega arith) in
+    let rest = MadeOfEach-items g f xs parts joined.0 (λ n d l. let made = each (suc n) d (omega (arith, l)) in (made.0, made.1, made.2)) (omega (arith, len)) joined.1 in
+    (v.items, joined.0, (v, subst (λ y. g.post f (y, tt) (Ok v)) (sym (first.1 x)) first.2, refl), rest, joined.2)
 
 -- a chunk of the items' number divided by the workers, rounded up, is not empty
 pub positive : (len workers size : ℕ) (none : Bool) → none ≡ eqb len 0 → none ≡ false → 1 ≤ workers → size ≡ div_ceil len workers → 0 < size

@@ -4,16 +4,18 @@
 //! the other in the items' order, for every number of workers from 1 to `MAX_WORKERS` and every
 //! `Gate` (`MadeOfEach` in specs/Phase.antt). Where a piece allows one list for each item, the whole
 //! is one list for all workers and gates (`one_list_for_all_workers`). A gate is told of each chunk
-//! of items and proves nothing.
+//! of items and proves nothing. `par_handed` hands each item over to a worker, which may take it apart.
 //!
 //! The two tests, in src/phase.rt, show the order of the items, and that a phase runs in more than
 //! one thread, which no clause says.
 #![tactic(auto)]
 
 mod gate;
+mod handed;
 mod phase;
 mod piece;
 
 pub use gate::{Gate, OpenGate};
-pub use phase::{MAX_WORKERS, one_list_for_all_workers, par_rows};
+pub use handed::par_handed;
+pub use phase::{MAX_WORKERS, followed, one_list_for_all_workers, par_rows};
 pub use piece::Piece;

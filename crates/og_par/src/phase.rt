@@ -70,7 +70,10 @@ where
 }
 
 // The parts one after the other, where each was made.
-fn joined<X: Drop>(alloc: Global, parts: Vec<Result<Vec<X>, NoMemory>>) -> Result<Vec<X>, NoMemory>
+pub(crate) fn joined<X: Drop>(
+    alloc: Global,
+    parts: Vec<Result<Vec<X>, NoMemory>>,
+) -> Result<Vec<X>, NoMemory>
     ensures { IfOk result (λ v. JoinsAll parts.items v.items) }
 {
     let mut all = Vec::new(alloc);
@@ -80,8 +83,9 @@ fn joined<X: Drop>(alloc: Global, parts: Vec<Result<Vec<X>, NoMemory>>) -> Resul
     Ok(all)
 }
 
-// The second list after the first; where the first is empty, the second as it lies in memory.
-fn followed<X: Drop>(first: Vec<X>, second: Vec<X>) -> Result<Vec<X>, NoMemory>
+/// The second list after the first; where the first is empty, the second as it lies in memory. Refused only
+/// for want of memory.
+pub fn followed<X: Drop>(first: Vec<X>, second: Vec<X>) -> Result<Vec<X>, NoMemory>
     ensures { IfOk result (λ v. v.items ≡ first.items ++ second.items) }
 {
     if first.is_empty() {

@@ -105,19 +105,19 @@ or_false true = refl
 or_false false = refl
 
 -- or goes in any order
-or_across : (a b c d : Bool) → ((a || b) || (c || d)) ≡ ((a || c) || (b || d))
+pub or_across : (a b c d : Bool) → ((a || b) || (c || d)) ≡ ((a || c) || (b || d))
 or_across true b c d = refl
 or_across false true true d = refl
 or_across false true false d = refl
 or_across false false c d = refl
 
 -- a test of no member of any list
-any_of_none : {A : Type 0} (ys : List A) → list_any (λ _. false) ys ≡ false
+pub any_of_none : {A : Type 0} (ys : List A) → list_any (λ _. false) ys ≡ false
 any_of_none [] = refl
 any_of_none (y ∷ ys) = any_of_none ys
 
 -- a test or another, of some member
-any_of_either : {A : Type 0} (p q : A → Bool) (xs : List A) → list_any (λ x. p x || q x) xs ≡ (list_any p xs || list_any q xs)
+pub any_of_either : {A : Type 0} (p q : A → Bool) (xs : List A) → list_any (λ x. p x || q x) xs ≡ (list_any p xs || list_any q xs)
 any_of_either p q [] = refl
 any_of_either p q (x ∷ xs) = ap (λ b. (p x || q x) || b) (any_of_either p q xs) ∙ or_across (p x) (q x) (list_any p xs) (list_any q xs)
 

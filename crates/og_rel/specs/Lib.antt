@@ -1,3 +1,4 @@
 pub mod Algebra
 pub mod Pairs
 pub mod Relations
+pub mod Shares

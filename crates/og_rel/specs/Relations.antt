@@ -1,5 +1,5 @@
 -- Relations: rows with the ranges of their days, and what they are at a day.
-use Rattle.std.specs.Prelude.{◌≢◌, not, ℤ, Bool, List, [], ◌∷◌, filter, if◌then◌else◌}
+use Rattle.std.specs.Prelude.{◌≢◌, ◌++◌, not, ℤ, Bool, List, [], ◌∷◌, filter, if◌then◌else◌}
 use Rattle.std.specs.declared.cmp.Ordering.{Ordering}
 use Rattle.og_base.specs.Ranges.{Range, IsNormal, holds_day}
 use Rattle.og_base.specs.Set.{set_of}
@@ -25,3 +25,11 @@ stored row (r ∷ rs) = (row, r ∷ rs) ∷ []
 -- the rows that do not pass a test, with their days
 abbrev pub others : {R : Type 0} → (R → Bool) → List (R × List Range) → List (R × List Range)
 others passes rel = filter (λ p. not (passes p.0)) rel
+
+-- the rows that pass a test, with their days
+abbrev pub passing : {R : Type 0} → (R → Bool) → List (R × List Range) → List (R × List Range)
+passing passes rel = filter (λ p. passes p.0) rel
+
+-- a relation in which others stand in the place of the rows that pass a test
+abbrev pub instead : {R : Type 0} → (R → Bool) → List (R × List Range) → List (R × List Range) → List (R × List Range)
+instead passes more rel = others passes rel ++ more

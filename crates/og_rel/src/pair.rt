@@ -1,5 +1,6 @@
 //! A row and the days on which it is present.
-ghost use Rattle.std.specs.Prelude.{◌≡◌, ◌++◌, [], ◌∷◌, IfOk, OnOk, filter, length, not};
+ghost use Rattle.std.specs.Prelude.{◌≡◌, ◌++◌, ◌+◌, ◌≤◌, [], ◌∷◌, IfOk, OnOk, filter, length, not};
+ghost use Rattle.std.specs.Vec.{vec_capacity, vec_len};
 ghost use Rattle.og_rel.specs.Pairs.{present_of_pairs};
 
 use crate::row_test::RowTest;
@@ -42,7 +43,7 @@ pub(crate) fn present_rows<R: Instant>(
 }
 
 // Adds the pair's row at the day, where it is present on it.
-fn add_row<R: Instant>(
+pub(crate) fn add_row<R: Instant>(
     alloc: Global,
     pair: &Pair<R>,
     d: RefDay,
@@ -54,6 +55,42 @@ fn add_row<R: Instant>(
         rows.push(pair.row.at(alloc, d)?)?;
     }
     Ok(())
+}
+
+// Adds the pair once more, where its row passes the test.
+pub(crate) fn add_passing<R: OngoingRow + Drop, T: RowTest<R>>(
+    alloc: Global,
+    pair: &Pair<R>,
+    test: &T,
+    pairs: &mut Vec<Pair<R>>,
+) -> Result<(), NoMemory>
+    ensures { OnOk result (pairs.new.items ≡ pairs.old.items ++ filter (λ p. T.passes test.now p.row) (pair.now ∷ [])) }
+{
+    if test.test(&pair.row) {
+        pairs.push(pair.copy(alloc)?)?;
+    }
+    Ok(())
+}
+
+// Puts more pairs in the place of those whose rows pass the test, where there is room for all of them: what
+// is taken out does not come back.
+pub(crate) fn replace_pairs<R: Drop, T: RowTest<R>>(
+    pairs: &mut Vec<Pair<R>>,
+    test: &T,
+    more: Vec<Pair<R>>,
+)
+    requires { vec_len pairs.old + vec_len more ≤ vec_capacity pairs.old }
+    ensures { pairs.new.items ≡ filter (λ p. not (T.passes test.now p.row)) pairs.old.items ++ more.items }
+{
+    pairs.retain(
+        |pair: &Pair<R>| -> bool
+            ensures { result ≡ not (T.passes test.entry.now pair.now.row) }
+        { !test.test(&pair.row) },
+    );
+    let mut more = more;
+    let Ok(()) = pairs.append(&mut more) else {
+        unreachable!();
+    };
 }
 
 // The number of pairs whose rows do not pass the test.

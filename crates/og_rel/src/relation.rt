@@ -1,16 +1,17 @@
 //! Relations.
-ghost use Rattle.std.specs.Prelude.{◌≡◌, ◌++◌, ◌<◌, ◌≤◌, List, [], ◌∷◌, IfOk, OnOk, OnErr, not, length, slice_index_or};
+ghost use Rattle.std.specs.Prelude.{◌≡◌, ◌++◌, ◌<◌, ◌≤◌, List, [], ◌∷◌, IfOk, OnOk, OnErr, length, slice_index_or, take};
 ghost use Rattle.std.specs.List.{All};
 ghost use Rattle.og_base.specs.Ranges.{Range};
 ghost use Rattle.og_par.specs.Limits.{max_workers};
-ghost use Rattle.og_rel.specs.Relations.{HasDays, others, relation_at, stored};
+ghost use Rattle.og_rel.specs.Relations.{HasDays, instead, others, passing, relation_at, stored};
 
-use crate::blocks::{AtDay, blocks_of};
-use crate::pair::{Pair, count_other_pairs, present_rows};
+use crate::blocks::LEAST;
+use crate::by_workers::rows_by_workers;
+use crate::pair::{Pair, add_passing, count_other_pairs, present_rows, replace_pairs};
 use crate::rising_rows::rising_rows;
 use crate::row_test::RowTest;
 use og_base::{Instant, NoMemory, OngoingRow, RefDay, RtSet};
-use og_par::{Gate, par_rows};
+use og_par::Gate;
 use std::alloc::Global;
 use std::marker::Model;
 use std::thread::Threads;
@@ -78,19 +79,21 @@ impl<R> Rel<R> {
     pub fn replace<T: RowTest<R>>(&mut self, test: &T, more: Rel<R>) -> Result<(), NoMemory>
     where
         R: Drop,
-        ensures replaced { OnOk result (self.new ≡ others (T.passes test.now) self.old ++ more) }
+        ensures replaced { OnOk result (self.new ≡ instead (T.passes test.now) more self.old) }
         ensures refused { OnErr result (self.new ≡ self.old) }
     {
-        let mut more = more;
-        // Room for all first: what is taken out does not come back.
         self.pairs.reserve(more.pairs.len())?;
-        self.pairs.retain(
-            |pair: &Pair<R>| -> bool
-                ensures { result ≡ not (T.passes test.entry.now pair.now.row) }
-            { !test.test(&pair.row) },
-        );
-        self.pairs.append(&mut more.pairs)?;
+        replace_pairs(&mut self.pairs, test, more.pairs);
         Ok(())
+    }
+
+    /// Keeps that many of the first rows, and all where there are fewer. Takes no memory.
+    pub fn truncate(&mut self, len: usize)
+    where
+        R: Drop,
+        ensures { self.new ≡ take len self.old }
+    {
+        self.pairs.truncate(len);
     }
 
     /// The number of rows that do not pass the test: those that `replace` leaves. Takes no memory.
@@ -146,6 +149,20 @@ impl<R: OngoingRow> Rel<R> {
         Ok(Rel { pairs })
     }
 
+    /// The rows that pass the test, once more, with their days. Refused only for want of memory.
+    pub fn passing<T: RowTest<R>>(&self, test: &T) -> Result<Rel<R>, NoMemory>
+    where
+        R: Drop,
+        ensures { IfOk result (λ rel. rel ≡ passing (T.passes test.now) self.now) }
+    {
+        let alloc = *self.pairs.allocator();
+        let mut pairs = Vec::new(alloc);
+        'pairs: for pair in &self.pairs {
+            add_passing(alloc, pair, test, &mut pairs)?;
+        }
+        Ok(Rel { pairs })
+    }
+
     /// The rising list of the rows that are present on the day, at the day, each once. Refused only
     /// for want of memory.
     pub fn at(&self, d: RefDay) -> Result<Vec<R::Fixed>, NoMemory>
@@ -156,8 +173,9 @@ impl<R: OngoingRow> Rel<R> {
         rising_rows(rows)
     }
 
-    /// The list of `at`, made by 1 to `MAX_WORKERS` workers of og_par: each makes the lists of some
-    /// blocks of rows. Refused only for want of memory.
+    /// The list of `at`, made by 1 to `MAX_WORKERS` workers of og_par: each makes the list of a block of
+    /// rows, and then puts together what the blocks have for one share of the list. Refused only for want of
+    /// memory.
     pub fn at_workers<H: Threads + Sync, G: Gate + Sync>(
         &self,
         rt: &H,
@@ -167,15 +185,37 @@ impl<R: OngoingRow> Rel<R> {
     ) -> Result<Vec<R::Fixed>, NoMemory>
     where
         R: Sync,
-        R::Fixed: Send,
+        R::Fixed: Send + Sync,
         requires least { 1 ≤ workers }
         requires most { workers ≤ max_workers }
         ensures { IfOk result (λ rows. rows.items ≡ relation_at R.Fixed.cmp R.meaning self.now d) }
     {
+        if workers == 1 || self.pairs.len() <= LEAST {
+            gate.enter(0);
+            return self.at(d);
+        }
         let alloc = *self.pairs.allocator();
-        let blocks = blocks_of(alloc, self.pairs.as_slice())?;
-        let at_day = AtDay { day: d };
-        let rows = par_rows(rt, alloc, workers, blocks.as_slice(), &at_day, gate)?;
-        rising_rows(rows)
+        rows_by_workers(rt, alloc, workers, self.pairs.as_slice(), d, gate)
     }
+}
+
+/// Puts rows in the place of those that pass a test in each of two relations, as `replace` does in one: in
+/// both or in neither. Refused only for want of memory, and then nothing has changed.
+pub fn replace_both<R: Drop, S: Drop, T: RowTest<R>, U: RowTest<S>>(
+    first: &mut Rel<R>,
+    first_test: &T,
+    first_more: Rel<R>,
+    second: &mut Rel<S>,
+    second_test: &U,
+    second_more: Rel<S>,
+) -> Result<(), NoMemory>
+    ensures first_replaced { OnOk result (first.new ≡ instead (T.passes first_test.now) first_more first.old) }
+    ensures second_replaced { OnOk result (second.new ≡ instead (U.passes second_test.now) second_more second.old) }
+    ensures refused { OnErr result ((first.new ≡ first.old) × (second.new ≡ second.old)) }
+{
+    first.pairs.reserve(first_more.pairs.len())?;
+    second.pairs.reserve(second_more.pairs.len())?;
+    replace_pairs(&mut first.pairs, first_test, first_more.pairs);
+    replace_pairs(&mut second.pairs, second_test, second_more.pairs);
+    Ok(())
 }

@@ -1,0 +1,52 @@
+//! The rows of a day, listed by several workers.
+ghost use Rattle.std.specs.Prelude.{◌≡◌, ◌≤◌, IfOk};
+ghost use Rattle.og_base.specs.Set.{IsExact, set_of};
+ghost use Rattle.og_par.specs.Limits.{max_workers};
+ghost use Rattle.og_rel.specs.Pairs.{present_of_pairs};
+ghost use Rattle.og_rel.specs.Shares.{AreListed, rows_of};
+
+use crate::blocks::{AtDay, blocks_of};
+use crate::cuts::cuts_of;
+use crate::ordered::in_order;
+use crate::pair::Pair;
+use crate::shares::{shares_of, together};
+use og_base::{Instant, NoMemory, RefDay};
+use og_par::{Gate, par_handed, par_rows};
+use std::alloc::Global;
+use std::thread::Threads;
+
+// The rising list of the rows of the day. Each worker lists a block of the pairs and cuts the list into parts;
+// then each puts together the parts of all blocks that lie between two cuts.
+pub(crate) fn rows_by_workers<H: Threads + Sync, R: Instant + Sync, G: Gate + Sync>(
+    rt: &H,
+    alloc: Global,
+    workers: usize,
+    pairs: &[Pair<R>],
+    d: RefDay,
+    gate: &G,
+) -> Result<Vec<R::Fixed>, NoMemory>
+where
+    R::Fixed: Send + Sync,
+    requires least { 1 ≤ workers }
+    requires most { workers ≤ max_workers }
+    ensures { IfOk result (λ rows. rows.items ≡ set_of R.Fixed.cmp (present_of_pairs R.meaning pairs.now d)) }
+{
+    let blocks = blocks_of(alloc, workers, pairs)?;
+    let cuts = cuts_of(alloc, blocks.len().max(1), pairs, d)?;
+    let at_day = AtDay {
+        day: d,
+        cuts: cuts.as_slice(),
+    };
+    let parts = par_rows(rt, alloc, workers, blocks.as_slice(), &at_day, gate)?;
+    let shares = shares_of(alloc, cuts.len().saturating_add(1), parts)?;
+    let lists = par_handed(
+        rt,
+        alloc,
+        shares,
+        &|share: Vec<Vec<R::Fixed>>| -> Result<Vec<Vec<R::Fixed>>, NoMemory>
+            requires { IsExact R.Fixed.cmp }
+            ensures { IfOk result (λ lists. AreListed R.Fixed.cmp (rows_of share.items) lists.items) }
+        { together(alloc, share) },
+    )?;
+    in_order(alloc, lists)
+}
