@@ -18,7 +18,7 @@ pub(crate) fn cells_of(
     ensures cells { IfOk result (λ row. AreCells schema.now (take (length schema.now) (fields_of fields.now)) row) }
     ensures none { result ≡ Err CellRefusal.NotACell → (row : List values.Value) → ¬ AreCells schema.now (take (length schema.now) (fields_of fields.now)) row }
 {
-    let Ok(mut values) = Vec::with_capacity(alloc, schema.len()) else {
+    let Ok(mut row) = Row::with_room(alloc, schema.len()) else {
         return Err(CellRefusal::NoMemory);
     };
     'columns: for i in 0..schema.len() {
@@ -26,9 +26,9 @@ pub(crate) fn cells_of(
             return Err(CellRefusal::NotACell);
         };
         let value = read_cell(alloc, schema.column(i).kind, field)?;
-        let Ok(()) = values.push(value) else {
+        let Ok(()) = row.push(value) else {
             return Err(CellRefusal::NoMemory);
         };
     }
-    Ok(Row::of(values))
+    Ok(row)
 }

@@ -7,6 +7,7 @@ pub mod Heights
 pub mod Held
 pub mod Limits
 pub mod Order
+pub mod Places
 pub mod Schemas
 pub mod Steady
 pub mod Values

@@ -2,7 +2,8 @@
 //!
 //! `Row` has the laws of the traits of og_base: it is on each day the list of its values on that
 //! day (`row_at` in specs/Values.antt). Rows of one day, `FixedRow`, are in the order of
-//! specs/Order.antt, which ties only rows that are the same (`order_of_rows`). Cells are read
+//! specs/Order.antt, which ties only rows that are the same (`order_of_rows`). A row of at most two values
+//! takes no memory of its own (specs/Places.antt). Cells are read
 //! exactly where they are such, with their value, and written as the one text of it (`read_cell`,
 //! `write_cell`, `write_fixed`; specs/Cells.antt). A `Text` is UTF-8, a `Name` is a word in lower
 //! case, a `Schema` has 1 to `MAX_COLUMNS` columns. The trait `Catalog` tells what each name stands for.

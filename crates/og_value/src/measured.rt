@@ -24,10 +24,47 @@ pub(crate) trait HasHeight: Ord {
     ghost first: { (x y : Self) (m n : ℕ) → is_height x m → is_height y n → m < n → Self.cmp x y ≡ Less };
 }
 
+// What the high word of a height counts.
+const WORD: u128 = 1 << 64;
+
+// A height, seen as the number. Two words begin at any word, where a number of 128 bits begins at every second one.
+#[derive(Debug, Drop)]
+struct Height {
+    high: u64,
+    low: u64,
+}
+
+impl Model for Height {
+    ghost use Rattle.std.specs.Prelude.{ℕ, ◌+◌, ◌*◌, ◌^◌};
+
+    ghost Value = { ℕ };
+
+    ghost view = { λ h. h.high * 2 ^ 64 + h.low };
+}
+
+impl Height {
+    // The height of that number.
+    fn of(number: u128) -> Height
+        ensures { result ≡ number }
+    {
+        Height {
+            high: (number / WORD) as u64,
+            low: (number % WORD) as u64,
+        }
+    }
+
+    // The number.
+    fn number(&self) -> u128
+        ensures { result ≡ self.now }
+    {
+        u128::from(self.high) * WORD + u128::from(self.low)
+    }
+}
+
 /// A list of parts with the height of the first one, seen as the list.
 #[derive(Debug, Drop)]
 pub(crate) struct Measured<T: HasHeight> {
-    height: u128,
+    height: Height,
     parts: Listed<T>,
 }
 
@@ -43,13 +80,13 @@ impl<T: HasHeight> Model for Measured<T> {
 }
 
 impl<T: HasHeight> Measured<T> {
-    /// The list of the parts.
-    pub(crate) fn of(parts: Vec<T>) -> Measured<T>
-        ensures { result ≡ parts.items }
+    /// The same list.
+    pub(crate) fn of(parts: Listed<T>) -> Measured<T>
+        ensures { result ≡ parts }
     {
         Measured {
-            height: height_of(parts.as_slice()),
-            parts: Listed::of(parts),
+            height: Height::of(height_of(parts.as_slice())),
+            parts,
         }
     }
 
@@ -113,10 +150,11 @@ impl<T: HasHeight> Ord for Measured<T> {
     ghost matches_eq = { lists_ties T.cmp T.matches_eq };
 
     fn cmp(&self, other: &Self) -> Ordering {
-        if self.height < other.height {
+        let (height, other_height) = (self.height.number(), other.height.number());
+        if height < other_height {
             return Ordering::Less;
         }
-        if other.height < self.height {
+        if other_height < height {
             return Ordering::Greater;
         }
         self.parts.cmp(&other.parts)

@@ -1,5 +1,5 @@
 //! Rows, whose values depend on the day, and rows of one day.
-ghost use Rattle.std.specs.Prelude.{◌≡◌, ◌<◌, ◌++◌, ℤ, length, slice_get, Some, IfOk, OnOk, List};
+ghost use Rattle.std.specs.Prelude.{◌≡◌, ◌<◌, ◌++◌, ◌∷◌, [], ℤ, length, slice_get, Some, IfOk, OnOk, OnErr, List};
 ghost use Rattle.og_base.specs.Calendar.{IsRefDay};
 ghost use Rattle.og_base.specs.Ranges.{holds_day};
 ghost use Rattle.og_base.specs.Set.{IsExactOrder};
@@ -51,13 +51,29 @@ impl Model for FixedRow {
 }
 
 impl Row {
-    /// The row of the values.
+    /// The row of the values. At most two move into the row itself, and their list gives its memory back.
     pub fn of(values: Vec<Value>) -> Row
         ensures { result ≡ values.items }
     {
         Row {
             values: Listed::of(values),
         }
+    }
+
+    /// A row of no values, with room for so many.
+    pub fn with_room(alloc: Global, count: usize) -> Result<Row, NoMemory>
+        ensures { IfOk result (λ row. row ≡ []) }
+    {
+        let values = Listed::with_room(alloc, count)?;
+        Ok(Row { values })
+    }
+
+    /// Adds the value behind the others. The row stays as it is where memory runs out.
+    pub fn push(&mut self, value: Value) -> Result<(), NoMemory>
+        ensures pushed { OnOk result (self.new ≡ self.old ++ value ∷ []) }
+        ensures refused { OnErr result (self.new ≡ self.old) }
+    {
+        self.values.push(value)
     }
 
     /// The number of values.
@@ -77,12 +93,12 @@ impl Row {
 }
 
 impl FixedRow {
-    /// The row of the values.
+    /// The row of the values. At most two move into the row itself, and their list gives its memory back.
     pub fn of(values: Vec<FixedValue>) -> FixedRow
         ensures { result ≡ values.items }
     {
         FixedRow {
-            values: Measured::of(values),
+            values: Measured::of(Listed::of(values)),
         }
     }
 
@@ -110,11 +126,13 @@ impl Instant for Row {
     ghost meaning = { λ row d. row_at row d };
 
     fn at(&self, alloc: Global, d: RefDay) -> Result<FixedRow, NoMemory> {
-        let mut values = Vec::with_capacity(alloc, self.len())?;
+        let mut values = Listed::with_room(alloc, self.len())?;
         'values: for value in self.values.as_slice() {
             values.push(value.at(d)?)?;
         }
-        Ok(FixedRow::of(values))
+        Ok(FixedRow {
+            values: Measured::of(values),
+        })
     }
 
     ghost exact = { rows_exact };
@@ -187,15 +205,15 @@ impl Glue for Row {
 fn joined(alloc: Global, first: &[Value], second: &[Value]) -> Result<Row, NoMemory>
     ensures { IfOk result (λ r. r ≡ first.now ++ second.now) }
 {
-    let mut values = Vec::with_capacity(alloc, first.len().saturating_add(second.len()))?;
+    let mut values = Listed::with_room(alloc, first.len().saturating_add(second.len()))?;
     append_copies(first, &mut values)?;
     append_copies(second, &mut values)?;
-    Ok(Row::of(values))
+    Ok(Row { values })
 }
 
 // Appends a copy of each of the values.
-fn append_copies(values: &[Value], out: &mut Vec<Value>) -> Result<(), NoMemory>
-    ensures { OnOk result (out.new.items ≡ out.old.items ++ values.now) }
+fn append_copies(values: &[Value], out: &mut Listed<Value>) -> Result<(), NoMemory>
+    ensures { OnOk result (out.new ≡ out.old ++ values.now) }
 {
     'values: for value in values {
         out.push(value.copy()?)?;

@@ -90,12 +90,10 @@ impl Schema {
         ensures { IfOk result (λ s. s ≡ self.now) }
     {
         let columns = self.columns.as_slice();
-        let mut copies = Vec::new(self.columns.allocator());
+        let mut copies = Listed::with_room(self.columns.allocator(), columns.len())?;
         'columns: for column in columns {
             copies.push(column.copy()?)?;
         }
-        Ok(Schema {
-            columns: Listed::of(copies),
-        })
+        Ok(Schema { columns: copies })
     }
 }

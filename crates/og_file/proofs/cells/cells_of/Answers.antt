@@ -20,5 +20,5 @@ columns-preserved c =
     let i = c.columns.i in
     let columns = c.args.schema.now in
     let fields = fields_of c.args.fields.now in
-    let cells = next_cell (take i columns) (take i fields) c.columns.values.items c.column.result.now c.in-Some.field.now c.in_ok-value.value c.columns.invariant c.in_ok-value.ensures.value in
-    rw (next_column columns i c.column.result.now c.column.ensures, next_field fields i c.in-Some.field.now (sym c.in-Some.ensures.value), c.in-Ok-push.ensures.items) cells
+    let cells = next_cell (take i columns) (take i fields) c.columns.row c.column.result.now c.in-Some.field.now c.in_ok-value.value c.columns.invariant c.in_ok-value.ensures.value in
+    rw (next_column columns i c.column.result.now c.column.ensures, next_field fields i c.in-Some.field.now (sym c.in-Some.ensures.value), c.in-Ok-push.ensures.pushed) cells

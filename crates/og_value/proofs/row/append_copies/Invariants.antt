@@ -2,4 +2,4 @@ use Rattle.std.proofs.Common.{◌≡◌, ◌++◌, take}
 use Rattle.og_value.proofs.row.append_copies.Given as goal
 
 abbrev pub invariant-values : goal.invariant-values
-invariant-values l = l.out.items ≡ l.initial.out.items ++ take l.value-index l.values
+invariant-values l = l.out ≡ l.initial.out ++ take l.value-index l.values
