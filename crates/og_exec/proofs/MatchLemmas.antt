@@ -1,13 +1,17 @@
 -- Rows that are matched: by tests that agree on the members, by a test that no member passes or that all pass, by one test more; and what each matched row is.
 use Rattle.std.proofs.Common.{◌≡◌, ◌++◌, ◌+◌, ◌<◌, ◌&&◌, ℕ, Bool, true, false, List, [], ◌∷◌, length, get_or, take, map, filter, if◌then◌else◌, refl, sym, ap, ap₂, ◌∙◌}
 use Rattle.std.specs.List.{All, flat_map, list_all}
+use Rattle.std.proofs.lemmas.List.{map-id}
 use Rattle.std.proofs.lemmas.List.Elements.{All-nil, All-head, All-tail, All-append, All-map, All-filter, All-weaker}
 use Rattle.std.proofs.lemmas.List.Folds.{list_all_more}
 use Rattle.og_base.specs.Set.{set_of}
 use Rattle.og_base.proofs.SetLemmas.{All-set_of}
 use Rattle.og_value.specs.Order.{row_order}
+use Rattle.og_ops.proofs.RowLemmas.{set_of-map}
+use Rattle.og_query.proofs.QueryLemmas.{rows_ordered}
 use Rattle.og_query.specs.Queries.{Fixed}
 use Rattle.og_plan.specs.Meaning.{matches}
+use Rattle.og_exec.specs.Images.{images}
 
 -- of a test that all pass
 pub filter-all : {A : Type 0} (xs : List A) → filter (λ _. true) xs ≡ xs
@@ -62,6 +66,10 @@ pairs-all (x ∷ xs) ys = λ i. map (λ y. x ++ y) (back i) ++ pairs-all xs ys i
 -- all combinations are what is matched by a test that all pass
 pub matches-all : (xs ys : List Fixed) → set_of row_order (flat_map (λ x. map (λ y. x ++ y) ys) xs) ≡ matches (λ _ _. true) xs ys
 matches-all xs ys = ap (set_of row_order) (pairs-all xs ys)
+
+-- what is matched is a set, of its rows as they are
+pub matches-whole : (meets : Fixed → Fixed → Bool) (xs ys : List Fixed) → matches meets xs ys ≡ images (λ row. row) (matches meets xs ys)
+matches-whole meets xs ys = ap (set_of row_order) (sym (map-id (pairs meets xs ys))) ∙ set_of-map rows_ordered (λ row. row) (pairs meets xs ys)
 
 -- of a test that no pair passes
 pairs-none : (xs ys : List Fixed) → pairs (λ _ _. false) xs ys ≡ []

@@ -153,11 +153,11 @@ module _ (named : Relations) (d : ℤ) where
       → made ≡ f (rows_on answer d) → rows_on answer d ≡ day_rows named d other → made ≡ day_rows named d plan
   of_one f plan input other made answer is_f same step before = step ∙ ap f before ∙ ap (λ q. f (day_rows named d q)) same ∙ sym is_f
 
-  -- and with two inputs
-  pub of_two : (f : List Fixed → List Fixed → List Fixed) (plan left right : Plan) (made : List Fixed) (first second : Relation)
-      → day_rows named d plan ≡ f (day_rows named d left) (day_rows named d right)
-      → made ≡ f (rows_on first d) (rows_on second d) → rows_on first d ≡ day_rows named d left → rows_on second d ≡ day_rows named d right → made ≡ day_rows named d plan
-  of_two f plan left right made first second is_f step before before_other = step ∙ ap₂ f before before_other ∙ sym is_f
+  -- and rows that are made of those of two inputs
+  pub of_two : (f : List Fixed → List Fixed → List Fixed) (rows : List Fixed) (left right : Plan) (made : List Fixed) (first second : Relation)
+      → rows ≡ f (day_rows named d left) (day_rows named d right)
+      → made ≡ f (rows_on first d) (rows_on second d) → rows_on first d ≡ day_rows named d left → rows_on second d ≡ day_rows named d right → made ≡ rows
+  of_two f rows left right made first second is_f step before before_other = step ∙ ap₂ f before before_other ∙ sym is_f
 
 -- a size that is multiplied
 more_product : (made a b m n size : ℕ) → made ≤ a * b → a ≤ m → b ≤ n → size ≡ m * n → made ≤ size

@@ -1,17 +1,14 @@
 -- The order of keys whose first value stands apart is that of their values.
-use Rattle.std.proofs.Common.{◌≡◌, Bool, true, false, List, [], ◌∷◌, refl, ap, ap₂}
+use Rattle.std.proofs.Common.{◌≡◌, true, false, List, [], ◌∷◌, refl, ap}
 use Rattle.std.specs.Cmp.Lexicographic.{slice_cmp}
-use Rattle.std.specs.Ordering.{eq_by_cmp, is_eq, ordering_then}
+use Rattle.std.specs.Ordering.{eq_by_cmp, is_eq}
 use Rattle.og_base.specs.Set.{IsExact}
 use Rattle.og_value.specs.Exact.{rows_exact, values_ordered}
-use Rattle.og_value.specs.Order.{value_order}
-use Rattle.og_value.specs.declared.value.FixedValue.{FixedValue}
 use Rattle.og_query.specs.Queries.{Fixed}
 use Rattle.og_plan.specs.declared.plan.ColPair.{ColPair}
 use Rattle.og_exec.specs.ColumnKeys.{apart, column_key}
-use Rattle.og_exec.specs.Keys.{key_value, key, have_one_key}
+use Rattle.og_exec.specs.Keys.{key, have_one_key}
 use Rattle.og_exec.specs.contracts.keys.ColumnKeyOrd.TheImpl as derived
-use Rattle.og_exec.specs.declared.keys.ColumnKey.{ColumnKey}
 
 -- only keys that are the same tie
 pub keys_exact : IsExact derived.cmp-value.it

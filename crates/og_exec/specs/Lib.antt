@@ -1,5 +1,6 @@
 pub mod Answers
 pub mod ColumnKeys
+pub mod Images
 pub mod KeyLaws
 pub mod Keys
 pub mod SemiKeys

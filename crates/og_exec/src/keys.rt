@@ -6,6 +6,7 @@ ghost use Rattle.og_value.specs.Values.{row_at, value_at};
 ghost use Rattle.og_plan.specs.Meaning.{all_hold, column, matches};
 ghost use Rattle.og_exec.specs.Answers.{rel_of};
 ghost use Rattle.og_exec.specs.ColumnKeys as column_keys;
+ghost use Rattle.og_exec.specs.Images.{images};
 ghost use Rattle.og_exec.specs.Keys as meant;
 ghost use Rattle.og_exec.specs.Tables.{rows_on};
 
@@ -14,7 +15,8 @@ use crate::semi_keys::first_width;
 use crate::spans::{ColumnSpans, are_as_wide, columns_that_overlap};
 use og_base::NoMemory;
 use og_expr::PartDays;
-use og_join::{Keys, key_join, key_span_join};
+use og_join::{Keys, key_join_with, key_span_join};
+use og_ops::PairMap;
 use og_par::Gate;
 use og_plan::ColPair;
 use og_query::Cond;
@@ -128,20 +130,21 @@ fn value_key(value: &Value) -> Result<FixedValue, NoMemory>
     Ok(key)
 }
 
-// The combinations whose keys are equal and for which all parts hold.
-pub(crate) fn key_joined<'t, H: Threads + Sync, G: Gate + Sync>(
+// What the map makes of the combinations whose keys are equal and for which all parts hold.
+pub(crate) fn key_joined<'t, H: Threads + Sync, M: PairMap<Row> + Sync, G: Gate + Sync>(
     rt: &H,
     alloc: Global,
     workers: usize,
     inputs: Inputs<'_>,
     pairs: &Items<ColPair>,
     rest: &Items<Cond>,
+    pair_map: &M,
     gate: &G,
 ) -> Result<Answer<'t>, NoMemory>
     requires least { 1 ≤ workers }
     requires most { workers ≤ max_workers }
     ensures law { IfOk result (λ a. (d : ℤ) → IsRefDay d → rows_on (rel_of a) d
-        ≡ matches (λ x y. meant.have_one_key pairs.now x y && all_hold d rest.now (x ++ y)) (rows_on (rel_of inputs.entry.left) d) (rows_on (rel_of inputs.entry.right) d)) }
+        ≡ images (M.image pair_map.now d) (matches (λ x y. meant.have_one_key pairs.now x y && all_hold d rest.now (x ++ y)) (rows_on (rel_of inputs.entry.left) d) (rows_on (rel_of inputs.entry.right) d))) }
     ensures size { IfOk result (λ a. length (rel_of a) ≤ length (rel_of inputs.entry.left) * length (rel_of inputs.entry.right)) }
 {
     made(columns_joined(
@@ -152,13 +155,14 @@ pub(crate) fn key_joined<'t, H: Threads + Sync, G: Gate + Sync>(
         inputs.right.rel(),
         pairs,
         rest,
+        pair_map,
         gate,
     ))
 }
 
 // The same of two relations. Where some part says that periods of both rows overlap, they are tried by
 // the spans of these.
-fn columns_joined<H: Threads + Sync, G: Gate + Sync>(
+fn columns_joined<H: Threads + Sync, M: PairMap<Row> + Sync, G: Gate + Sync>(
     rt: &H,
     alloc: Global,
     workers: usize,
@@ -166,12 +170,13 @@ fn columns_joined<H: Threads + Sync, G: Gate + Sync>(
     right: &Rel<Row>,
     pairs: &Items<ColPair>,
     rest: &Items<Cond>,
+    pair_map: &M,
     gate: &G,
 ) -> Result<Rel<Row>, NoMemory>
     requires least { 1 ≤ workers }
     requires most { workers ≤ max_workers }
     ensures law { IfOk result (λ r. (d : ℤ) → IsRefDay d → rows_on r d
-        ≡ matches (λ x y. meant.have_one_key pairs.now x y && all_hold d rest.now (x ++ y)) (rows_on left.now d) (rows_on right.now d)) }
+        ≡ images (M.image pair_map.now d) (matches (λ x y. meant.have_one_key pairs.now x y && all_hold d rest.now (x ++ y)) (rows_on left.now d) (rows_on right.now d))) }
     ensures size { IfOk result (λ r. length r ≤ length left.now * length right.now) }
 {
     order_of_rows();
@@ -179,11 +184,15 @@ fn columns_joined<H: Threads + Sync, G: Gate + Sync>(
     let cond = PartDays { parts: rest };
     let width = first_width(left);
     let Some(pair) = columns_that_overlap(width, rest) else {
-        return key_join(rt, alloc, workers, left, right, &keys, &cond, gate);
+        return key_join_with(
+            rt, alloc, workers, left, right, &keys, &cond, pair_map, gate,
+        );
     };
     let spans = ColumnSpans {
         pair: &pair,
         known: are_as_wide(left, width),
     };
-    key_span_join(rt, alloc, workers, left, right, &keys, &spans, &cond, gate)
+    key_span_join(
+        rt, alloc, workers, left, right, &keys, &spans, &cond, pair_map, gate,
+    )
 }

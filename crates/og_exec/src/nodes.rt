@@ -1,11 +1,10 @@
 //! The nodes of a plan that filter, multiply or project rows.
-ghost use Rattle.std.specs.Prelude.{◌≡◌, ◌≤◌, ◌*◌, ℤ, true, IfOk, length, map, filter};
+ghost use Rattle.std.specs.Prelude.{◌≡◌, ◌≤◌, ◌*◌, ℤ, true, IfOk, length, filter};
 ghost use Rattle.og_base.specs.Calendar.{IsRefDay};
-ghost use Rattle.og_base.specs.Set.{set_of};
-ghost use Rattle.og_value.specs.Order.{row_order};
 ghost use Rattle.og_query.specs.Queries.{image};
 ghost use Rattle.og_plan.specs.Meaning.{all_hold, matches};
 ghost use Rattle.og_exec.specs.Answers.{rel_of};
+ghost use Rattle.og_exec.specs.Images.{images};
 ghost use Rattle.og_exec.specs.Tables.{rows_on};
 
 use crate::answer::{Answer, Inputs, made};
@@ -46,7 +45,7 @@ pub(crate) fn projected<'t>(
     input: Answer<'_>,
     items: &Items<Expr>,
 ) -> Result<Answer<'t>, NoMemory>
-    ensures law { IfOk result (λ a. (d : ℤ) → IsRefDay d → rows_on (rel_of a) d ≡ set_of row_order (map (image d items.now) (rows_on (rel_of input.entry) d))) }
+    ensures law { IfOk result (λ a. (d : ℤ) → IsRefDay d → rows_on (rel_of a) d ≡ images (image d items.now) (rows_on (rel_of input.entry) d)) }
     ensures size { IfOk result (λ a. length (rel_of a) ≤ length (rel_of input.entry)) }
 {
     order_of_rows();

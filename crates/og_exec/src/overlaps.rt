@@ -8,6 +8,7 @@ ghost use Rattle.og_query.specs.declared.condition.Cond.TheVariants as conds;
 ghost use Rattle.og_query.specs.declared.expression.Expr.TheVariants as exprs;
 ghost use Rattle.og_plan.specs.Meaning.{all_hold, do_overlap, matches};
 ghost use Rattle.og_exec.specs.Answers.{rel_of};
+ghost use Rattle.og_exec.specs.Images.{images};
 ghost use Rattle.og_exec.specs.Spans.{do_overlap_and};
 ghost use Rattle.og_exec.specs.Tables.{rows_on};
 
@@ -16,7 +17,8 @@ use crate::spans::{Both, ColumnSpans, are_as_wide, say_overlap};
 use crate::widths::added;
 use og_base::NoMemory;
 use og_expr::{CondDays, PartDays};
-use og_join::overlap_join;
+use og_join::overlap_join_with;
+use og_ops::PairMap;
 use og_par::Gate;
 use og_plan::ColPair;
 use og_query::{Cond, Expr};
@@ -26,9 +28,9 @@ use sqlite_items::Items;
 use std::alloc::Global;
 use std::thread::Threads;
 
-// The combinations whose periods overlap and for which the rest holds, where each left row has so
-// many values.
-pub(crate) fn overlap_joined<'t, H: Threads + Sync, G: Gate + Sync>(
+// What the map makes of the combinations whose periods overlap and for which the rest holds, where each
+// left row has so many values.
+pub(crate) fn overlap_joined<'t, H: Threads + Sync, M: PairMap<Row> + Sync, G: Gate + Sync>(
     rt: &H,
     alloc: Global,
     workers: usize,
@@ -36,12 +38,13 @@ pub(crate) fn overlap_joined<'t, H: Threads + Sync, G: Gate + Sync>(
     width: usize,
     pair: &ColPair,
     rest: &Items<Cond>,
+    pair_map: &M,
     gate: &G,
 ) -> Result<Answer<'t>, NoMemory>
     requires least { 1 ≤ workers }
     requires most { workers ≤ max_workers }
     ensures law { IfOk result (λ a. (d : ℤ) → IsRefDay d → All (λ x. length x ≡ width) (rows_on (rel_of inputs.entry.left) d) → rows_on (rel_of a) d
-        ≡ matches (λ x y. do_overlap x y pair.now && all_hold d rest.now (x ++ y)) (rows_on (rel_of inputs.entry.left) d) (rows_on (rel_of inputs.entry.right) d)) }
+        ≡ images (M.image pair_map.now d) (matches (λ x y. do_overlap x y pair.now && all_hold d rest.now (x ++ y)) (rows_on (rel_of inputs.entry.left) d) (rows_on (rel_of inputs.entry.right) d))) }
     ensures size { IfOk result (λ a. length (rel_of a) ≤ length (rel_of inputs.entry.left) * length (rel_of inputs.entry.right)) }
 {
     made(pair_joined(
@@ -53,12 +56,13 @@ pub(crate) fn overlap_joined<'t, H: Threads + Sync, G: Gate + Sync>(
         width,
         pair,
         rest,
+        pair_map,
         gate,
     ))
 }
 
 // The same of two relations.
-fn pair_joined<H: Threads + Sync, G: Gate + Sync>(
+fn pair_joined<H: Threads + Sync, M: PairMap<Row> + Sync, G: Gate + Sync>(
     rt: &H,
     alloc: Global,
     workers: usize,
@@ -67,12 +71,13 @@ fn pair_joined<H: Threads + Sync, G: Gate + Sync>(
     width: usize,
     pair: &ColPair,
     rest: &Items<Cond>,
+    pair_map: &M,
     gate: &G,
 ) -> Result<Rel<Row>, NoMemory>
     requires least { 1 ≤ workers }
     requires most { workers ≤ max_workers }
     ensures law { IfOk result (λ r. (d : ℤ) → IsRefDay d → All (λ x. length x ≡ width) (rows_on left.now d) → rows_on r d
-        ≡ matches (λ x y. do_overlap x y pair.now && all_hold d rest.now (x ++ y)) (rows_on left.now d) (rows_on right.now d)) }
+        ≡ images (M.image pair_map.now d) (matches (λ x y. do_overlap x y pair.now && all_hold d rest.now (x ++ y)) (rows_on left.now d) (rows_on right.now d))) }
     ensures size { IfOk result (λ r. length r ≤ length left.now * length right.now) }
 {
     // A row has no period in a column that it has not.
@@ -85,13 +90,13 @@ fn pair_joined<H: Threads + Sync, G: Gate + Sync>(
         known: are_as_wide(left, width),
     };
     columns_joined(
-        rt, alloc, workers, left, right, width, place, &spans, rest, gate,
+        rt, alloc, workers, left, right, width, place, &spans, rest, pair_map, gate,
     )
 }
 
-// The combinations for which the periods in the two columns of the glued row overlap and the rest
-// holds.
-fn columns_joined<H: Threads + Sync, G: Gate + Sync>(
+// What the map makes of the combinations for which the periods in the two columns of the glued row overlap
+// and the rest holds.
+fn columns_joined<H: Threads + Sync, M: PairMap<Row> + Sync, G: Gate + Sync>(
     rt: &H,
     alloc: Global,
     workers: usize,
@@ -101,6 +106,7 @@ fn columns_joined<H: Threads + Sync, G: Gate + Sync>(
     place: usize,
     spans: &ColumnSpans<'_>,
     rest: &Items<Cond>,
+    pair_map: &M,
     gate: &G,
 ) -> Result<Rel<Row>, NoMemory>
     requires least { 1 ≤ workers }
@@ -109,20 +115,24 @@ fn columns_joined<H: Threads + Sync, G: Gate + Sync>(
     requires place { place ≡ width + spans.now.pair.now.right }
     requires known { spans.now.known ≡ true → All (λ p. length p.0 ≡ width) left.now }
     ensures law { IfOk result (λ r. (d : ℤ) → IsRefDay d → rows_on r d
-        ≡ matches (λ x y. do_overlap_and d spans.now.pair.now.left place rest.now (x ++ y)) (rows_on left.now d) (rows_on right.now d)) }
+        ≡ images (M.image pair_map.now d) (matches (λ x y. do_overlap_and d spans.now.pair.now.left place rest.now (x ++ y)) (rows_on left.now d) (rows_on right.now d))) }
     ensures size { IfOk result (λ r. length r ≤ length left.now * length right.now) }
 {
     order_of_rows();
     let cond = PartDays { parts: rest };
     if say_overlap(rest, spans.pair.left, place) {
-        return overlap_join(rt, alloc, workers, left, right, spans, &cond, gate);
+        return overlap_join_with(
+            rt, alloc, workers, left, right, spans, &cond, pair_map, gate,
+        );
     }
     let overlap = overlap_of(spans.pair.left, place);
     let both = Both {
         first: CondDays { cond: &overlap },
         second: cond,
     };
-    let joined = overlap_join(rt, alloc, workers, left, right, spans, &both, gate);
+    let joined = overlap_join_with(
+        rt, alloc, workers, left, right, spans, &both, pair_map, gate,
+    );
     drop(overlap);
     joined
 }

@@ -4,25 +4,30 @@ ghost use Rattle.og_base.specs.Calendar.{IsRefDay};
 ghost use Rattle.og_par.specs.Limits.{max_workers};
 ghost use Rattle.og_rel.specs.Relations.{relation_at};
 ghost use Rattle.og_value.specs.Values.{row_at};
+ghost use Rattle.og_query.specs.Queries.{image};
 ghost use Rattle.og_plan.specs.Meaning.{plan_rows};
 ghost use Rattle.og_plan.specs.Shapes.{is_sound, scans_of};
 ghost use Rattle.og_plan.specs.Sizes.{plan_size};
 ghost use Rattle.og_exec.specs.Answers.{rel_of};
+ghost use Rattle.og_exec.specs.Images.{images};
 ghost use Rattle.og_exec.specs.Tables.{AreThere, rows_at, rows_on, sizes_of};
 
 use crate::answer::{Answer, Inputs, lent};
 use crate::combine::combined;
+use crate::images::ItemPairs;
 use crate::keys::key_joined;
 use crate::nodes::{filtered, multiplied, projected};
 use crate::overlaps::overlap_joined;
 use crate::semis::sifted;
 use crate::widths::width_of;
 use og_base::NoMemory;
+use og_ops::Whole;
 use og_par::Gate;
 use og_plan::Plan;
+use og_query::Expr;
 use og_rel::{Rel, Tables};
 use og_value::{FixedRow, Row, order_of_rows};
-use sqlite_items::Boxed;
+use sqlite_items::{Boxed, Items};
 use std::alloc::Global;
 use std::thread::Threads;
 
@@ -86,7 +91,7 @@ fn answer_of<'t, H: Threads + Sync, T: Tables<Row>, G: Gate + Sync>(
             rest,
         } => {
             let inputs = both(rt, alloc, left, right, tables, workers, gate)?;
-            key_joined(rt, alloc, workers, inputs, pairs, rest, gate)
+            key_joined(rt, alloc, workers, inputs, pairs, rest, &Whole, gate)
         }
         Plan::OverlapJoin {
             left,
@@ -96,11 +101,10 @@ fn answer_of<'t, H: Threads + Sync, T: Tables<Row>, G: Gate + Sync>(
         } => {
             let width = width_of(left.get())?;
             let inputs = both(rt, alloc, left, right, tables, workers, gate)?;
-            overlap_joined(rt, alloc, workers, inputs, width, pair, rest, gate)
+            overlap_joined(rt, alloc, workers, inputs, width, pair, rest, &Whole, gate)
         }
         Plan::Project { input, items } => {
-            let input = answer_of(rt, alloc, input.get(), tables, workers, gate)?;
-            projected(alloc, input, items)
+            images_of(rt, alloc, input.get(), items, tables, workers, gate)
         }
         Plan::Combine { op, left, right } => {
             let inputs = both(rt, alloc, left, right, tables, workers, gate)?;
@@ -109,6 +113,53 @@ fn answer_of<'t, H: Threads + Sync, T: Tables<Row>, G: Gate + Sync>(
         Plan::Semis { input, semis } => {
             let input = answer_of(rt, alloc, input.get(), tables, workers, gate)?;
             sifted(alloc, input, semis.as_slice(), tables)
+        }
+    }
+}
+
+// The images of the rows of a plan. Those of a join are made of its pairs of rows, by the workers and
+// without the glued rows.
+#[cycle(answer_of)]
+fn images_of<'t, H: Threads + Sync, T: Tables<Row>, G: Gate + Sync>(
+    rt: &H,
+    alloc: Global,
+    plan: &Plan,
+    items: &Items<Expr>,
+    tables: &'t T,
+    workers: usize,
+    gate: &G,
+) -> Result<Answer<'t>, NoMemory>
+    requires least { 1 ≤ workers }
+    requires most { workers ≤ max_workers }
+    requires sound { is_sound plan.now ≡ true }
+    requires tables { AreThere (T.named tables.now) (scans_of plan.now) }
+    ensures law { IfOk result (λ a. (d : ℤ) → IsRefDay d → rows_on (rel_of a) d ≡ images (image d items.now) (plan_rows d (rows_at (T.named tables.now) d) plan.now)) }
+    ensures size { IfOk result (λ a. length (rel_of a) ≤ plan_size (sizes_of (T.named tables.now)) plan.now) }
+{
+    let images = ItemPairs { items };
+    match plan {
+        Plan::KeyJoin {
+            left,
+            right,
+            pairs,
+            rest,
+        } => {
+            let inputs = both(rt, alloc, left, right, tables, workers, gate)?;
+            key_joined(rt, alloc, workers, inputs, pairs, rest, &images, gate)
+        }
+        Plan::OverlapJoin {
+            left,
+            right,
+            pair,
+            rest,
+        } => {
+            let width = width_of(left.get())?;
+            let inputs = both(rt, alloc, left, right, tables, workers, gate)?;
+            overlap_joined(rt, alloc, workers, inputs, width, pair, rest, &images, gate)
+        }
+        _ => {
+            let input = answer_of(rt, alloc, plan, tables, workers, gate)?;
+            projected(alloc, input, items)
         }
     }
 }

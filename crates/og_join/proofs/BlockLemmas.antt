@@ -39,31 +39,32 @@ more_size made more whole done block both rights h k e f = grind (arith, h, k, e
 not_zero : (n : ℕ) → (suc n == 0) ≡ true → ⊥
 not_zero n e = grind (arith, e)
 
-module _ {R F : Type 0} (glued : F → F → F) (at : R → ℤ → F) (holds : ℤ → F → Bool) (left right : List (R × List Range)) (rs : List Outer) where
+module _ {R F : Type 0} (glued : F → F → F) (image : ℤ → F → F) (at : R → ℤ → F) (holds : ℤ → F → Bool) (left right : List (R × List Range)) (rs : List Outer) where
   -- what is made of the pairs of places that overlap is what the left spans are joined to
   pub joined_of_places : (ls : List Outer) (places : List (ℕ × ℕ)) (made : List (R × List Range)) → IsPermutation places (overlaps (λ o. o.lo) (λ o. o.hi) 0 0 ls rs)
-      → ((t : F → Bool) (d : ℤ) → IsRefDay d → list_any t (present at made d) ≡ list_any (λ p. spans_meet glued at holds left right ls rs p t d) places)
-      → AreJoined glued at holds left right rs ls made
+      → ((t : F → Bool) (d : ℤ) → IsRefDay d → list_any t (present at made d) ≡ list_any (λ p. spans_meet glued at holds left right ls rs p (λ x. t (image d x)) d) places)
+      → AreJoined glued image at holds left right rs ls made
   joined_of_places ls places made moved met t d r =
+      let u : F → Bool = λ x. t (image d x) in
       met t d r
-      ∙ list_any-IsPermutation (λ p. spans_meet glued at holds left right ls rs p t d) _ _ moved
-      ∙ list_any-overlaps (λ o. o.lo) (λ o. o.hi) (λ p. spans_meet glued at holds left right ls rs p t d) (λ a b. rows_meet glued at holds left right a.row b.row t d) 0 0 ls rs
-      (λ m k. ap₂ (λ i j. spans_meet glued at holds left right ls rs (i, j) t d) (omega arith) (omega arith))
+      ∙ list_any-IsPermutation (λ p. spans_meet glued at holds left right ls rs p u d) _ _ moved
+      ∙ list_any-overlaps (λ o. o.lo) (λ o. o.hi) (λ p. spans_meet glued at holds left right ls rs p u d) (λ a b. rows_meet glued at holds left right a.row b.row u d) 0 0 ls rs
+      (λ m k. ap₂ (λ i j. spans_meet glued at holds left right ls rs (i, j) u d) (omega arith) (omega arith))
 
   -- what some first spans are joined to, and more spans
-  AreJoined-append : (xs ys : List Outer) (made more : List (R × List Range)) → AreJoined glued at holds left right rs xs made → AreJoined glued at holds left right rs ys more
-      → AreJoined glued at holds left right rs (xs ++ ys) (made ++ more)
+  AreJoined-append : (xs ys : List Outer) (made more : List (R × List Range)) → AreJoined glued image at holds left right rs xs made → AreJoined glued image at holds left right rs ys more
+      → AreJoined glued image at holds left right rs (xs ++ ys) (made ++ more)
   AreJoined-append xs ys made more h k t d r =
       ap (list_any t) (present-append at made more d)
       ∙ list_any-append t (present at made d) (present at more d)
       ∙ ap₂ (λ a b. a || b) (h t d r) (k t d r)
-      ∙ sym (list_any-append (meets_some glued at holds left right rs t d) xs ys)
+      ∙ sym (list_any-append (meets_some glued at holds left right rs (λ x. t (image d x)) d) xs ys)
 
   -- of all spans those before the rest are joined, to at most the product of spans
   pub record IsJoinedUpTo (all rest : List Outer) (made : List (R × List Range)) : Type 0 where
     pub before : List Outer
     pub whole : before ++ rest ≡ all
-    pub rows : AreJoined glued at holds left right rs before made
+    pub rows : AreJoined glued image at holds left right rs before made
     pub size : length made ≤ length before * length rs
 
   -- none is joined yet
@@ -72,7 +73,7 @@ module _ {R F : Type 0} (glued : F → F → F) (at : R → ℤ → F) (holds : 
 
   -- one more block is joined, which is cut from the front of the rest
   pub block_joined : (all rest block later : List Outer) (n : ℕ) (made more new : List (R × List Range)) → block ≡ take n rest → later ≡ drop n rest → new ≡ made ++ more
-      → AreJoined glued at holds left right rs block more → length more ≤ length block * length rs → IsJoinedUpTo all rest made → IsJoinedUpTo all later new
+      → AreJoined glued image at holds left right rs block more → length more ≤ length block * length rs → IsJoinedUpTo all rest made → IsJoinedUpTo all later new
   block_joined all rest block later n made more new front back e rows size h = record {
     before = h.before ++ block;
     whole = append_assoc h.before block later ∙ ap (λ xs. h.before ++ xs) (ap₂ (λ xs ys. xs ++ ys) front back ∙ take-append-drop n rest) ∙ h.whole;
@@ -82,8 +83,8 @@ module _ {R F : Type 0} (glued : F → F → F) (at : R → ℤ → F) (holds : 
 
   -- all are joined
   pub all_joined : (all rest : List Outer) (made : List (R × List Range)) → (length rest == 0) ≡ true → IsJoinedUpTo all rest made
-      → AreJoined glued at holds left right rs all made × (length made ≤ length all * length rs)
+      → AreJoined glued image at holds left right rs all made × (length made ≤ length all * length rs)
   all_joined all [] made e h =
       let is : h.before ≡ all = sym (append-nil h.before) ∙ h.whole in
-      (subst (λ xs. AreJoined glued at holds left right rs xs made) is h.rows, subst (λ xs. length made ≤ length xs * length rs) is h.size)
+      (subst (λ xs. AreJoined glued image at holds left right rs xs made) is h.rows, subst (λ xs. length made ≤ length xs * length rs) is h.size)
   all_joined all (x ∷ xs) made e h = absurd (not_zero (length xs) e)

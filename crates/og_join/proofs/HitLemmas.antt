@@ -1,4 +1,4 @@
--- Rows that were glued, as a relation: of hits one after the other, and of one.
+-- Rows that were made of two, as a relation: of hits one after the other, and of one.
 use Rattle.std.proofs.Common.{◌≡◌, ◌≤◌, ◌++◌, ℤ, List, [], ◌∷◌, length, if◌then◌else◌, ap, ◌∙◌, arith}
 use Rattle.std.proofs.lemmas.Grind.{flat_map-append}
 use Rattle.std.proofs.lemmas.List.{append-nil, length-append}

@@ -1,4 +1,4 @@
--- Rows of a day that are joined: of one row, of lists one after the other, of the rows of one key, and of sets.
+-- Rows of a day that are joined: of one row, of lists one after the other, of the rows of one key, of sets, and their images.
 use Rattle.std.proofs.Common.{◌≡◌, ◌++◌, ◌&&◌, ◌||◌, Bool, true, false, List, [], ◌∷◌, map, filter, if◌then◌else◌, Ordering, Less, Equal, Greater, refl, sym, ap, ap₂, ◌∙◌}
 use Rattle.std.specs.Cmp.{IsTotalOrder}
 use Rattle.std.specs.List.{All, list_any}
@@ -73,3 +73,10 @@ module _ {F : Type 0} (glued : F → F → F) (meets : F → F → Bool) where
       (λ x told. told (λ y. t (glued x y)) ∙ sym (list_any-set_of o.exact (λ y. meets x y && t (glued x y)) zs)) xs same)
       ∙ sym (list_any-set_of o.exact (λ x. list_any (λ y. meets x y && t (glued x y)) (set_of cmp zs)) xs)
       ∙ sym (list_any-joined t (set_of cmp xs) (set_of cmp zs)))
+
+-- the set of the images of joined rows is that of what is joined to images
+pub set_of-images : {F : Type 0} {cmp : F → F → Ordering} → IsExactOrder cmp → (glued : F → F → F) (meets : F → F → Bool) (image : F → F) (xs ys : List F)
+    → set_of cmp (joined (λ x y. image (glued x y)) meets xs ys) ≡ set_of cmp (map image (joined glued meets xs ys))
+set_of-images o glued meets image xs ys =
+    same_set_by_tests o (joined (λ x y. image (glued x y)) meets xs ys) (map image (joined glued meets xs ys))
+    (λ t. list_any-joined (λ x y. image (glued x y)) meets t xs ys ∙ sym (list_any-joined glued meets (λ x. t (image x)) xs ys) ∙ sym (list_any-map t image (joined glued meets xs ys)))

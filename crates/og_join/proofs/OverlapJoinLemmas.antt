@@ -1,5 +1,5 @@
--- The law of the overlap join: the rows of the left spans that overlap right ones are those of the join.
-use Rattle.std.proofs.Common.{◌≡◌, ◌≤◌, ◌*◌, ◌&&◌, ℕ, ℤ, Bool, true, false, List, int_lt, Ordering, refl, sym, ap, ap₂, ◌∙◌, arith}
+-- The law of the overlap join: what is made of the rows of left spans that overlap right ones is the image of the join.
+use Rattle.std.proofs.Common.{◌≡◌, ◌≤◌, ◌*◌, ◌&&◌, ℕ, ℤ, Bool, true, false, List, map, int_lt, Ordering, refl, sym, ap, ap₂, ◌∙◌, arith}
 use Rattle.std.specs.List.{All, list_any}
 use Rattle.std.proofs.Math.Bool.{and-false}
 use Rattle.og_base.specs.Calendar.{IsRefDay}
@@ -8,6 +8,7 @@ use Rattle.og_base.specs.Set.{IsExactOrder, set_of}
 use Rattle.og_base.specs.declared.comparison.Outer.{Outer}
 use Rattle.og_base.specs.declared.range.FixedPeriod.{FixedPeriod}
 use Rattle.og_base.proofs.BoundaryLemmas.{int_lt-yes}
+use Rattle.og_base.proofs.SetMembers.{list_any-map}
 use Rattle.og_rel.specs.Relations.{present, relation_at}
 use Rattle.og_rel.proofs.AlgebraLemmas.{same_set_by_tests}
 use Rattle.og_rel.proofs.PresentLemmas.{list_any-relation_at}
@@ -100,17 +101,20 @@ module _ {R F : Type 0} (glued : F → F → F) (at : R → ℤ → F) (holds : 
           ∙ list_any-and (holds_day p.1 d) (λ q. holds_day q.1 d && (holds d (glued (at p.0 d) (at q.0 d)) && t (glued (at p.0 d) (at q.0 d)))) right
           ∙ any_alike _ _ right (λ q. and_across (holds_day p.1 d) (holds_day q.1 d) (holds d (glued (at p.0 d) (at q.0 d))) (t (glued (at p.0 d) (at q.0 d))))
 
--- where a relation is that of the left spans that overlap right ones, it is the join on the day
-pub overlap_law : {R F : Type 0} {cmp : F → F → Ordering} → IsExactOrder cmp → (glued : F → F → F) (at : R → ℤ → F) (holds : ℤ → F → Bool) (left_span right_span : R → FixedPeriod)
+-- where a relation is that of the left spans that overlap right ones, it is the image of the join on the day
+pub overlap_law : {R F : Type 0} {cmp : F → F → Ordering} → IsExactOrder cmp → (glued : F → F → F) (image : ℤ → F → F) (at : R → ℤ → F) (holds : ℤ → F → Bool) (left_span right_span : R → FixedPeriod)
     (left right made : List (R × List Range)) (ls rs : List Outer) (d : ℤ) → IsRefDay d
-    → AreSpansOf left_span left ls → AreSpansOf right_span right rs → AreJoined glued at holds left right rs ls made → AreTold glued at holds left_span right_span left right
-    → relation_at cmp at made d ≡ set_of cmp (joined glued (λ x y. holds d (glued x y)) (relation_at cmp at left d) (relation_at cmp at right d))
-overlap_law {cmp = cmp} o glued at holds left_span right_span left right made ls rs d r lefts rights rows told =
-    same_set_by_tests o (present at made d) (joined glued (λ x y. holds d (glued x y)) (relation_at cmp at left d) (relation_at cmp at right d))
-    (λ t. rows t d r
-    ∙ any_pair glued at holds left right t d left_span right_span ls rs lefts rights
-    ∙ any_told glued at holds left right t d left_span right_span ls rs lefts rights r told
-    ∙ sym (any_joined glued at holds left right t d o))
+    → AreSpansOf left_span left ls → AreSpansOf right_span right rs → AreJoined glued image at holds left right rs ls made → AreTold glued at holds left_span right_span left right
+    → relation_at cmp at made d ≡ set_of cmp (map (image d) (joined glued (λ x y. holds d (glued x y)) (relation_at cmp at left d) (relation_at cmp at right d)))
+overlap_law {F = F} {cmp = cmp} o glued image at holds left_span right_span left right made ls rs d r lefts rights rows told =
+    let glued_rows : List F = joined glued (λ x y. holds d (glued x y)) (relation_at cmp at left d) (relation_at cmp at right d) in
+    same_set_by_tests o (present at made d) (map (image d) glued_rows)
+    (λ t. let u : F → Bool = λ x. t (image d x) in
+    rows t d r
+    ∙ any_pair glued at holds left right u d left_span right_span ls rs lefts rights
+    ∙ any_told glued at holds left right u d left_span right_span ls rs lefts rights r told
+    ∙ sym (any_joined glued at holds left right u d o)
+    ∙ sym (list_any-map t (image d) glued_rows))
 
 -- at most the product of rows is made of spans, of which there are no more than rows
 pub overlap_size : (made lefts rights n m : ℕ) → made ≤ lefts * rights → lefts ≤ n → rights ≤ m → made ≤ n * m

@@ -27,7 +27,7 @@ use Rattle.og_join.specs.SameKey.{AreHits, AreNear, HaveDayKeys, HaveSpans, IsNe
 use Rattle.og_join.specs.declared.same_key.SameKey.{SameKey}
 use Rattle.og_join.specs.declared.span_key.SpanKey.{SpanKey}
 use Rattle.og_join.proofs.HitLemmas.{length-stored_hits, present-hits, present-hit}
-use Rattle.og_join.proofs.JoinedLemmas.{ties_turned, joined-append, one_joined-append, one_joined-nil, joined-one, set_of-joined}
+use Rattle.og_join.proofs.JoinedLemmas.{ties_turned, joined-append, one_joined-append, one_joined-nil, joined-one, set_of-joined, set_of-images}
 
 -- one more row that is lent
 lent-more : {R K : Type 0} (rows : List (KeyedRow R K)) (i : ℕ) (s : KeyedRow R K) → i < length rows → s ≡ get_or rows i s → lent (take (i + 1) rows) ≡ lent (take i rows) ++ (s.row.now, s.days.now) ∷ []
@@ -35,47 +35,47 @@ lent-more rows i s l e =
     ap lent (take_more rows i s l ∙ ap (λ q. take i rows ++ q ∷ []) (sym e)) ∙ map-append (λ q. (q.row.now, q.days.now)) (take i rows) (s ∷ [])
 
 module _ {R F : Type 0} (at : R → ℤ → F) where
-  module _ (glued : F → F → F) (holds : ℤ → F → Bool) (row : R) (days : List Range) where
+  module _ (glued : F → F → F) (image : ℤ → F → F) (holds : ℤ → F → Bool) (row : R) (days : List Range) where
     -- without others there are no hits
-    pub AreHits-nil : AreHits glued holds at row days [] []
-    AreHits-nil = record { law = λ d r. one_joined-nil glued (λ x y. holds d (glued x y)) (at row d) (holds_day days d); size = omega arith }
+    pub AreHits-nil : AreHits glued image holds at row days [] []
+    AreHits-nil = record { law = λ d r. one_joined-nil (λ x y. image d (glued x y)) (λ x y. holds d (glued x y)) (at row d) (holds_day days d); size = omega arith }
 
     -- others, and more others
-    AreHits-append : (xs ys : List (R × List Range)) (a b : List (Hit R)) → AreHits glued holds at row days xs a → AreHits glued holds at row days ys b → AreHits glued holds at row days (xs ++ ys) (a ++ b)
+    AreHits-append : (xs ys : List (R × List Range)) (a b : List (Hit R)) → AreHits glued image holds at row days xs a → AreHits glued image holds at row days ys b → AreHits glued image holds at row days (xs ++ ys) (a ++ b)
     AreHits-append xs ys a b h k = record {
       law = λ d r.
           present-hits at d a b ∙ ap₂ (λ us vs. us ++ vs) (h.law d r) (k.law d r)
-          ∙ sym (one_joined-append glued (λ x y. holds d (glued x y)) (at row d) (holds_day days d) (present at xs d) (present at ys d))
-          ∙ ap (joined glued (λ x y. holds d (glued x y)) (present at ((row, days) ∷ []) d)) (sym (present-append at xs ys d));
+          ∙ sym (one_joined-append (λ x y. image d (glued x y)) (λ x y. holds d (glued x y)) (at row d) (holds_day days d) (present at xs d) (present at ys d))
+          ∙ ap (joined (λ x y. image d (glued x y)) (λ x y. holds d (glued x y)) (present at ((row, days) ∷ []) d)) (sym (present-append at xs ys d));
       size = omega (arith, length-append a b, length-append xs ys, h.size, k.size);
     }
 
     -- the others up to one more, which add more hits, where a premise on all others tells what each asks
     pub AreHits-more : {K : Type 0} (premise : KeyedRow R K → Type 0) (rows : List (KeyedRow R K)) (i : ℕ) (s : KeyedRow R K) (initial old new a b : List (Hit R)) → i < length rows → s ≡ get_or rows i s
-        → (All premise rows → AreHits glued holds at row days (lent (take i rows)) a) → old ≡ initial ++ a → (premise s → AreHits glued holds at row days ((s.row.now, s.days.now) ∷ []) b) → new ≡ old ++ b
-        → (made : List (Hit R)) × (All premise rows → AreHits glued holds at row days (lent (take (i + 1) rows)) made) × (new ≡ initial ++ made)
+        → (All premise rows → AreHits glued image holds at row days (lent (take i rows)) a) → old ≡ initial ++ a → (premise s → AreHits glued image holds at row days ((s.row.now, s.days.now) ∷ []) b) → new ≡ old ++ b
+        → (made : List (Hit R)) × (All premise rows → AreHits glued image holds at row days (lent (take (i + 1) rows)) made) × (new ≡ initial ++ made)
     AreHits-more premise rows i s initial old new a b l e h olds k news = (
       a ++ b,
-      λ all. subst (λ others. AreHits glued holds at row days others (a ++ b)) (sym (lent-more rows i s l e))
+      λ all. subst (λ others. AreHits glued image holds at row days others (a ++ b)) (sym (lent-more rows i s l e))
           (AreHits-append (lent (take i rows)) ((s.row.now, s.days.now) ∷ []) a b (h all) (k (subst premise (sym e) (all i s l)))),
       news ∙ ap (λ hits. hits ++ b) olds ∙ append_assoc initial a b,
     )
 
     -- the hit of one other
-    pub AreHits-one : (other : R) (other_days : List Range) (h : Hit R) → ((d : ℤ) → IsRefDay d → at h.row d ≡ glued (at row d) (at other d))
-        → ((d : ℤ) → IsRefDay d → holds_day h.days d ≡ is_hit glued holds (at row) (at other) days other_days d) → AreHits glued holds at row days ((other, other_days) ∷ []) (h ∷ [])
+    pub AreHits-one : (other : R) (other_days : List Range) (h : Hit R) → ((d : ℤ) → IsRefDay d → at h.row d ≡ image d (glued (at row d) (at other d)))
+        → ((d : ℤ) → IsRefDay d → holds_day h.days d ≡ is_hit glued holds (at row) (at other) days other_days d) → AreHits glued image holds at row days ((other, other_days) ∷ []) (h ∷ [])
     AreHits-one other other_days h row_is days_are = record {
       law = λ d r.
           present-hit at d h
-          ∙ joined-one glued (λ x y. holds d (glued x y)) (at row d) (at other d) (at h.row d) (holds_day days d) (holds_day other_days d) (holds_day h.days d) (row_is d r) (days_are d r);
+          ∙ joined-one (λ x y. image d (glued x y)) (λ x y. holds d (glued x y)) (at row d) (at other d) (at h.row d) (holds_day days d) (holds_day other_days d) (holds_day h.days d) (row_is d r) (days_are d r);
       size = omega arith;
     }
 
     -- no hit, where there is no day
-    pub AreHits-none : (other : R) (other_days : List Range) → OnNoDay (is_hit glued holds (at row) (at other) days other_days) → AreHits glued holds at row days ((other, other_days) ∷ []) []
+    pub AreHits-none : (other : R) (other_days : List Range) → OnNoDay (is_hit glued holds (at row) (at other) days other_days) → AreHits glued image holds at row days ((other, other_days) ∷ []) []
     AreHits-none other other_days none = record {
       law = λ d r.
-          joined-one glued (λ x y. holds d (glued x y)) (at row d) (at other d) (glued (at row d) (at other d)) (holds_day days d) (holds_day other_days d) false refl (sym (none d r));
+          joined-one (λ x y. image d (glued x y)) (λ x y. holds d (glued x y)) (at row d) (at other d) (image d (glued (at row d) (at other d))) (holds_day days d) (holds_day other_days d) false refl (sym (none d r));
       size = omega arith;
     }
 
@@ -142,10 +142,10 @@ module _ {R F : Type 0} (at : R → ℤ → F) (d : ℤ) where
 
 module _ {R F K : Type 0} (glued : F → F → F) (at : R → ℤ → F) (holds : ℤ → F → Bool) where
   -- no hit of two rows whose spans do not overlap, where the spans tell which can meet
-  pub AreHits-far : (span : FixedPeriod) (row : R) (days : List Range) (other : KeyedRow R (SpanKey K)) (over : Bool) → ((over ≡ true) ↔ DoOverlap span other.key.span) → over ≡ false
-      → IsNear glued at holds span row other → AreHits glued holds at row days ((other.row.now, other.days.now) ∷ []) []
-  AreHits-far span row days other over tells far near =
-      AreHits-none at glued holds row days other.row.now other.days.now
+  pub AreHits-far : (image : ℤ → F → F) (span : FixedPeriod) (row : R) (days : List Range) (other : KeyedRow R (SpanKey K)) (over : Bool) → ((over ≡ true) ↔ DoOverlap span other.key.span) → over ≡ false
+      → IsNear glued at holds span row other → AreHits glued image holds at row days ((other.row.now, other.days.now) ∷ []) []
+  AreHits-far image span row days other over tells far near =
+      AreHits-none at glued image holds row days other.row.now other.days.now
       (λ d r. never (holds_day days d && holds_day other.days.now d) (holds d (glued (at row d) (at other.row.now d))) (λ h. true≢false (sym (tells.1 (near d r h)) ∙ far)))
     where
       never : (both h : Bool) → (h ≡ true → ⊥) → (both && h) ≡ false
@@ -210,30 +210,31 @@ length-made gives most n each (t ∷ ts) made all h =
     product_more : (whole first rest bound count n : ℕ) → whole ≡ first + rest → first ≤ bound → bound ≤ n → rest ≤ count * n → whole ≤ suc count * n
     product_more whole first rest bound count n e f b r = grind (arith, e, f, b, r)
 
-module _ {R F K : Type 0} (at : R → ℤ → F) (glued : F → F → F) (holds : ℤ → F → Bool) (lefts : List (SameKey R (SpanKey K))) (hits : List (Hit R))
-    (made : MadeOfEach (λ s h. AreHits glued holds at s.row.now s.days.now (lent s.others.now) h) lefts hits) where
+module _ {R F K : Type 0} (at : R → ℤ → F) (glued : F → F → F) (image : ℤ → F → F) (holds : ℤ → F → Bool) (lefts : List (SameKey R (SpanKey K))) (hits : List (Hit R))
+    (made : MadeOfEach (λ s h. AreHits glued image holds at s.row.now s.days.now (lent s.others.now) h) lefts hits) where
   -- the rows of a day of all hits that are made
-  present-made : (d : ℤ) → IsRefDay d → present at (stored_hits hits) d ≡ joined_same_key at glued (λ x y. holds d (glued x y)) lefts d
+  present-made : (d : ℤ) → IsRefDay d → present at (stored_hits hits) d ≡ joined_same_key at (λ x y. image d (glued x y)) (λ x y. holds d (glued x y)) lefts d
   present-made d r =
-      MadeOfEach-shown (λ s h. AreHits glued holds at s.row.now s.days.now (lent s.others.now) h) (λ h. present at (stored_hits h) d)
-      (λ s. joined glued (λ x y. holds d (glued x y)) (present at ((s.row.now, s.days.now) ∷ []) d) (present at (lent s.others.now) d))
+      MadeOfEach-shown (λ s h. AreHits glued image holds at s.row.now s.days.now (lent s.others.now) h) (λ h. present at (stored_hits h) d)
+      (λ s. joined (λ x y. image d (glued x y)) (λ x y. holds d (glued x y)) (present at ((s.row.now, s.days.now) ∷ []) d) (present at (lent s.others.now) d))
       refl (present-hits at d) (λ s h k. k.law d r) lefts hits made
 
-  -- they are what is joined of the relations by keys that are equal, where the others are the rows of the right in some order
+  -- they are the images of what is joined of the relations by keys that are equal, where the others are the rows of the right in some order
   pub made_law : {cmp : F → F → Ordering} → IsExactOrder cmp → (same_keys : F → F → Bool) (left right rel : List (R × List Range)) (others : List F) (d : ℤ) → IsRefDay d → rel ≡ stored_hits hits
       → All (λ x. (t : F → Bool) → list_any (λ y. (same_keys x y && holds d (glued x y)) && t y) others ≡ list_any (λ y. (same_keys x y && holds d (glued x y)) && t y) (present at right d)) (present at left d)
-      → joined_same_key at glued (λ x y. holds d (glued x y)) lefts d ≡ joined glued (λ x y. same_keys x y && holds d (glued x y)) (present at left d) others
-      → relation_at cmp at rel d ≡ set_of cmp (joined glued (λ x y. same_keys x y && holds d (glued x y)) (relation_at cmp at left d) (relation_at cmp at right d))
+      → joined_same_key at (λ x y. image d (glued x y)) (λ x y. holds d (glued x y)) lefts d ≡ joined (λ x y. image d (glued x y)) (λ x y. same_keys x y && holds d (glued x y)) (present at left d) others
+      → relation_at cmp at rel d ≡ set_of cmp (map (image d) (joined glued (λ x y. same_keys x y && holds d (glued x y)) (relation_at cmp at left d) (relation_at cmp at right d)))
   made_law {cmp} o same_keys left right rel others d r is same tried =
       ap (λ rows. relation_at cmp at rows d) is
       ∙ ap (set_of cmp) (present-made d r ∙ tried)
-      ∙ set_of-joined glued (λ x y. same_keys x y && holds d (glued x y)) o (present at left d) others (present at right d) same
+      ∙ set_of-joined (λ x y. image d (glued x y)) (λ x y. same_keys x y && holds d (glued x y)) o (present at left d) others (present at right d) same
+      ∙ set_of-images o glued (λ x y. same_keys x y && holds d (glued x y)) (image d) (relation_at cmp at left d) (relation_at cmp at right d)
 
   -- there are at most as many as pairs of rows
   pub made_size : (rel : List (R × List Range)) (n m : ℕ) → rel ≡ stored_hits hits → length lefts ≡ n → All (λ s. length s.others.now ≤ m) lefts → length rel ≤ n * m
   made_size rel n m is count most =
       let rows = length-stored_hits hits in
-      let whole = length-made (λ s h. AreHits glued holds at s.row.now s.days.now (lent s.others.now) h) (λ s. length s.others.now) m (λ s h k. lent_size s h k.size) lefts hits most made in
+      let whole = length-made (λ s h. AreHits glued image holds at s.row.now s.days.now (lent s.others.now) h) (λ s. length s.others.now) m (λ s h k. lent_size s h k.size) lefts hits most made in
       subst (λ k. length rel ≤ k * m) count (subst (λ xs. length xs ≤ length lefts * m) (sym is) (omega (arith, rows, whole)))
     where
       lent_size : (s : SameKey R (SpanKey K)) (h : List (Hit R)) → length h ≤ length (lent s.others.now) → length h ≤ length s.others.now

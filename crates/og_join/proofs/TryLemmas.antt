@@ -32,45 +32,45 @@ module _ {R F : Type 0} (at : R → ℤ → F) where
       one false = refl
 
   -- a test of the rows of all that was made
-  any_made : (meet : ℕ × ℕ → (F → Bool) → ℤ → Bool) (places : List (ℕ × ℕ)) (hits : List (Hit R)) → MadeOfEach (λ p made. IsMadeOf at (meet p) made) places hits
-      → (t : F → Bool) (d : ℤ) → IsRefDay d → list_any t (present at (stored_hits hits) d) ≡ list_any (λ p. meet p t d) places
-  any_made meet [] hits m t d r = ap (λ all. list_any t (present at (stored_hits all) d)) m
-  any_made meet (p ∷ places) hits m t d r =
+  any_made : (image : ℤ → F → F) (meet : ℕ × ℕ → (F → Bool) → ℤ → Bool) (places : List (ℕ × ℕ)) (hits : List (Hit R)) → MadeOfEach (λ p made. IsMadeOf image at (meet p) made) places hits
+      → (t : F → Bool) (d : ℤ) → IsRefDay d → list_any t (present at (stored_hits hits) d) ≡ list_any (λ p. meet p (λ x. t (image d x)) d) places
+  any_made image meet [] hits m t d r = ap (λ all. list_any t (present at (stored_hits all) d)) m
+  any_made image meet (p ∷ places) hits m t d r =
       ap (λ all. list_any t (present at (stored_hits all) d)) m.4
       ∙ ap (list_any t) (present-hits at d m.0 m.1)
       ∙ list_any-append t (present at (stored_hits m.0) d) (present at (stored_hits m.1) d)
-      ∙ ap₂ (λ a b. a || b) (m.2.1 t d r) (any_made meet places m.1 m.3 t d r)
+      ∙ ap₂ (λ a b. a || b) (m.2.1 t d r) (any_made image meet places m.1 m.3 t d r)
 
   -- a test of the relation of all that was made
-  pub any_relation : (meet : ℕ × ℕ → (F → Bool) → ℤ → Bool) (places given : List (ℕ × ℕ)) (hits : List (Hit R)) (made : List (R × List Range)) → made ≡ stored_hits hits → given ≡ places
-      → MadeOfEach (λ p all. IsMadeOf at (meet p) all) given hits → (t : F → Bool) (d : ℤ) → IsRefDay d → list_any t (present at made d) ≡ list_any (λ p. meet p t d) places
-  any_relation meet places given hits made e is m t d r =
-      ap (λ rel. list_any t (present at rel d)) e ∙ any_made meet given hits m t d r ∙ ap (list_any (λ p. meet p t d)) is
+  pub any_relation : (image : ℤ → F → F) (meet : ℕ × ℕ → (F → Bool) → ℤ → Bool) (places given : List (ℕ × ℕ)) (hits : List (Hit R)) (made : List (R × List Range)) → made ≡ stored_hits hits → given ≡ places
+      → MadeOfEach (λ p all. IsMadeOf image at (meet p) all) given hits → (t : F → Bool) (d : ℤ) → IsRefDay d → list_any t (present at made d) ≡ list_any (λ p. meet p (λ x. t (image d x)) d) places
+  any_relation image meet places given hits made e is m t d r =
+      ap (λ rel. list_any t (present at rel d)) e ∙ any_made image meet given hits m t d r ∙ ap (list_any (λ p. meet p (λ x. t (image d x)) d)) is
 
   -- at most one row is made of each pair of places
-  pub length-made : (meet : ℕ × ℕ → (F → Bool) → ℤ → Bool) (places : List (ℕ × ℕ)) (hits : List (Hit R)) → MadeOfEach (λ p made. IsMadeOf at (meet p) made) places hits → length hits ≤ length places
-  length-made meet [] hits m = omega (arith, ap length m)
-  length-made meet (p ∷ places) hits m =
-      omega (arith, ap length m.4 ∙ length-append m.0 m.1, m.2.0, length-made meet places m.1 m.3)
+  pub length-made : (image : ℤ → F → F) (meet : ℕ × ℕ → (F → Bool) → ℤ → Bool) (places : List (ℕ × ℕ)) (hits : List (Hit R)) → MadeOfEach (λ p made. IsMadeOf image at (meet p) made) places hits → length hits ≤ length places
+  length-made image meet [] hits m = omega (arith, ap length m)
+  length-made image meet (p ∷ places) hits m =
+      omega (arith, ap length m.4 ∙ length-append m.0 m.1, m.2.0, length-made image meet places m.1 m.3)
 
 module _ {R F : Type 0} (glued : F → F → F) (at : R → ℤ → F) (holds : ℤ → F → Bool) (left right : List (R × List Range)) (m n : ℕ) (p q : R × List Range)
-    (left_place : m < length left) (right_place : n < length right) (left_is : p ≡ get_or left m p) (right_is : q ≡ get_or right n q) (t : F → Bool) (d : ℤ) where
+    (left_place : m < length left) (right_place : n < length right) (left_is : p ≡ get_or left m p) (right_is : q ≡ get_or right n q) (d : ℤ) where
   -- the rows at two places meet where these two do
-  met : do_meet glued at holds t d p q ≡ rows_meet glued at holds left right m n t d
-  met = sym (at_both-get (do_meet glued at holds t d) left right m n p q left_place right_place left_is right_is)
+  met : (t : F → Bool) → do_meet glued at holds t d p q ≡ rows_meet glued at holds left right m n t d
+  met t = sym (at_both-get (do_meet glued at holds t d) left right m n p q left_place right_place left_is right_is)
 
   -- where the two meet on no day, nothing is made of them
-  pub rows_meet-no_day : is_hit glued holds (at p.0) (at q.0) p.1 q.1 d ≡ false → false ≡ rows_meet glued at holds left right m n t d
-  rows_meet-no_day none = sym (ap (λ b. b && t (glued (at p.0 d) (at q.0 d))) none) ∙ met
+  pub rows_meet-no_day : (t : F → Bool) → is_hit glued holds (at p.0) (at q.0) p.1 q.1 d ≡ false → false ≡ rows_meet glued at holds left right m n t d
+  rows_meet-no_day t none = sym (ap (λ b. b && t (glued (at p.0 d) (at q.0 d))) none) ∙ met t
 
-  -- a hit of the two is what is made of them
-  pub rows_meet-hit : (h : Hit R) → holds_day h.days d ≡ is_hit glued holds (at p.0) (at q.0) p.1 q.1 d → at h.row d ≡ glued (at p.0 d) (at q.0 d)
-      → list_any t (present at (stored_hits (h ∷ [])) d) ≡ rows_meet glued at holds left right m n t d
-  rows_meet-hit h days row = any_hit at h t d (is_hit glued holds (at p.0) (at q.0) p.1 q.1 d) (glued (at p.0 d) (at q.0 d)) days row ∙ met
+  -- a hit with the image of the two glued is what is made of them
+  pub rows_meet-hit : (image : F → F) (t : F → Bool) (h : Hit R) → holds_day h.days d ≡ is_hit glued holds (at p.0) (at q.0) p.1 q.1 d → at h.row d ≡ image (glued (at p.0 d) (at q.0 d))
+      → list_any t (present at (stored_hits (h ∷ [])) d) ≡ rows_meet glued at holds left right m n (λ x. t (image x)) d
+  rows_meet-hit image t h days row = any_hit at h t d (is_hit glued holds (at p.0) (at q.0) p.1 q.1 d) (image (glued (at p.0 d) (at q.0 d))) days row ∙ met (λ x. t (image x))
 
 -- what is made of the rows of two spans is made of the places of the spans
-pub made_of_places : {R F : Type 0} (at : R → ℤ → F) (meet : ℕ → ℕ → (F → Bool) → ℤ → Bool) (ls rs : List Outer) (i j : ℕ) (a b : Outer) (made : List (Hit R))
-    → i < length ls → j < length rs → a ≡ get_or ls i a → b ≡ get_or rs j b → IsMadeOf at (meet a.row b.row) made
-    → IsMadeOf at (λ t d. is_at (λ x. is_at (λ y. meet x.row y.row t d) rs j) ls i) made
-made_of_places at meet ls rs i j a b made left_place right_place left_is right_is h =
-    (h.0, λ t d r. h.1 t d r ∙ sym (at_both-get (λ x y. meet x.row y.row t d) ls rs i j a b left_place right_place left_is right_is))
+pub made_of_places : {R F : Type 0} (image : ℤ → F → F) (at : R → ℤ → F) (meet : ℕ → ℕ → (F → Bool) → ℤ → Bool) (ls rs : List Outer) (i j : ℕ) (a b : Outer) (made : List (Hit R))
+    → i < length ls → j < length rs → a ≡ get_or ls i a → b ≡ get_or rs j b → IsMadeOf image at (meet a.row b.row) made
+    → IsMadeOf image at (λ t d. is_at (λ x. is_at (λ y. meet x.row y.row t d) rs j) ls i) made
+made_of_places image at meet ls rs i j a b made left_place right_place left_is right_is h =
+    (h.0, λ t d r. h.1 t d r ∙ sym (at_both-get (λ x y. meet x.row y.row (λ z. t (image d z)) d) ls rs i j a b left_place right_place left_is right_is))

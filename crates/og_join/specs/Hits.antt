@@ -1,4 +1,4 @@
--- Rows that were glued, as a relation.
+-- Rows that were made of two, as a relation.
 use Rattle.std.specs.Prelude.{List}
 use Rattle.std.specs.List.{flat_map}
 use Rattle.og_base.specs.Ranges.{Range}

@@ -29,9 +29,9 @@ IsNear glued at holds span row other = (d : ℤ) → IsRefDay d → holds d (glu
 abbrev pub AreNear : {R F K : Type 0} → (F → F → F) → (R → ℤ → F) → (ℤ → F → Bool) → (R → FixedPeriod) → SameKey R (SpanKey K) → Type 0
 AreNear glued at holds span_of s = All (IsNear glued at holds (span_of s.row.now) s.row.now) s.others.now
 
--- on every day the row glued to each of the others for which the condition holds, and at most one hit for each
-pub record AreHits {R F : Type 0} (glued : F → F → F) (holds : ℤ → F → Bool) (at : R → ℤ → F) (row : R) (days : List Range) (others : List (R × List Range)) (made : List (Hit R)) : Type 0 where
-  pub law : (d : ℤ) → IsRefDay d → present at (stored_hits made) d ≡ joined glued (λ x y. holds d (glued x y)) (present at ((row, days) ∷ []) d) (present at others d)
+-- on every day the image of the row glued to each of the others for which the condition holds, and at most one hit for each
+pub record AreHits {R F : Type 0} (glued : F → F → F) (image : ℤ → F → F) (holds : ℤ → F → Bool) (at : R → ℤ → F) (row : R) (days : List Range) (others : List (R × List Range)) (made : List (Hit R)) : Type 0 where
+  pub law : (d : ℤ) → IsRefDay d → present at (stored_hits made) d ≡ joined (λ x y. image d (glued x y)) (λ x y. holds d (glued x y)) (present at ((row, days) ∷ []) d) (present at others d)
   pub size : length made ≤ length others
 
 -- the rows of a day of each left row glued to those of the others which it meets

@@ -45,11 +45,11 @@ spans_meet glued at holds left right ls rs places t d =
 abbrev pub meets_some : {R F : Type 0} → (F → F → F) → (R → ℤ → F) → (ℤ → F → Bool) → List (R × List Range) → List (R × List Range) → List Outer → (F → Bool) → ℤ → Outer → Bool
 meets_some glued at holds left right rs t d a = list_any (λ b. overlap (λ o. o.lo) (λ o. o.hi) a b && rows_meet glued at holds left right a.row b.row t d) rs
 
--- on each day some row passes a test where some of the left spans overlaps a right one, and their rows meet and pass it
-abbrev pub AreJoined : {R F : Type 0} → (F → F → F) → (R → ℤ → F) → (ℤ → F → Bool) → List (R × List Range) → List (R × List Range) → List Outer → List Outer → List (R × List Range) → Type 0
-AreJoined {R} {F} glued at holds left right rs ls made =
-    (t : F → Bool) (d : ℤ) → IsRefDay d → list_any t (present at made d) ≡ list_any (meets_some glued at holds left right rs t d) ls
+-- on each day some row passes a test where some of the left spans overlaps a right one, and their rows meet and their image passes it
+abbrev pub AreJoined : {R F : Type 0} → (F → F → F) → (ℤ → F → F) → (R → ℤ → F) → (ℤ → F → Bool) → List (R × List Range) → List (R × List Range) → List Outer → List Outer → List (R × List Range) → Type 0
+AreJoined {R} {F} glued image at holds left right rs ls made =
+    (t : F → Bool) (d : ℤ) → IsRefDay d → list_any t (present at made d) ≡ list_any (meets_some glued at holds left right rs (λ x. t (image d x)) d) ls
 
--- at most one row, and on each day it passes the tests that two rows which meet pass
-abbrev pub IsMadeOf : {R F : Type 0} → (R → ℤ → F) → ((F → Bool) → ℤ → Bool) → List (Hit R) → Type 0
-IsMadeOf {R} {F} at meet made = (length made ≤ 1) × ((t : F → Bool) (d : ℤ) → IsRefDay d → list_any t (present at (stored_hits made) d) ≡ meet t d)
+-- at most one row, and on each day it passes the tests that the image of two rows which meet passes
+abbrev pub IsMadeOf : {R F : Type 0} → (ℤ → F → F) → (R → ℤ → F) → ((F → Bool) → ℤ → Bool) → List (Hit R) → Type 0
+IsMadeOf {R} {F} image at meet made = (length made ≤ 1) × ((t : F → Bool) (d : ℤ) → IsRefDay d → list_any t (present at (stored_hits made) d) ≡ meet (λ x. t (image d x)) d)

@@ -9,6 +9,7 @@ use crate::hits::relation_of;
 use crate::sweep::candidates;
 use crate::tries::TryPair;
 use og_base::{DayCond, Glue, NoMemory, Outer, Steps};
+use og_ops::PairMap;
 use og_par::{Gate, par_rows};
 use og_rel::Rel;
 use std::alloc::Global;
@@ -16,18 +17,19 @@ use std::marker::Brand;
 use std::sync::ledger::{Blank, Ledger};
 use std::thread::Threads;
 
-// The glued rows of the pairs of spans that overlap, for which the condition holds on some day. The
-// pairs are shared out among the workers and tried.
+// What the map makes of the rows of each pair of spans that overlap, where the condition holds of them
+// on some day. The pairs are shared out among the workers and tried.
 pub(crate) fn join_block<
     H: Threads + Sync,
     R: Glue + Drop + Sync + Send,
     C: DayCond<R> + Sync,
+    M: PairMap<R> + Sync,
     G: Gate + Sync,
 >(
     rt: &H,
     alloc: Global,
     workers: usize,
-    block: &TryPair<'_, R, C>,
+    block: &TryPair<'_, R, C, M>,
     gate: &G,
 ) -> Result<Rel<R>, NoMemory>
 where
@@ -36,7 +38,7 @@ where
     requires most { workers ≤ max_workers }
     requires left_rises { Rises (λ o. o.lo) block.now.left_spans.now }
     requires right_rises { Rises (λ o. o.lo) block.now.right_spans.now }
-    ensures rows { IfOk result (AreJoined R.glued R.meaning (C.holds block.now.cond.now) block.now.left.now block.now.right.now block.now.right_spans.now block.now.left_spans.now) }
+    ensures rows { IfOk result (AreJoined R.glued (M.image block.now.pair_map.now) R.meaning (C.holds block.now.cond.now) block.now.left.now block.now.right.now block.now.right_spans.now block.now.left_spans.now) }
     ensures size { IfOk result (λ r. length r ≤ length block.now.left_spans.now * length block.now.right_spans.now) }
 {
     let pairs = overlapping::<Brand>(alloc, block.left_spans, block.right_spans, Blank::new(1))?;

@@ -1,4 +1,4 @@
-//! The relation of rows that were glued.
+//! The relation of rows that were made of two.
 ghost use Rattle.std.specs.Prelude.{◌≡◌, IfOk};
 ghost use Rattle.og_join.specs.Hits.{stored_hits};
 
@@ -7,7 +7,7 @@ use og_ops::Hit;
 use og_rel::Rel;
 use std::alloc::Global;
 
-// The relation of the glued rows with their days, in their order.
+// The relation of the rows with their days, in their order.
 pub(crate) fn relation_of<R: Drop>(alloc: Global, hits: Vec<Hit<R>>) -> Result<Rel<R>, NoMemory>
     ensures { IfOk result (λ r. r ≡ stored_hits hits.items) }
 {

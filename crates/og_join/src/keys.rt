@@ -1,5 +1,5 @@
 //! The joins of two relations on keys, and on keys and spans.
-ghost use Rattle.std.specs.Prelude.{◌≡◌, ◌≤◌, ◌*◌, ◌&&◌, ℤ, IfOk, length};
+ghost use Rattle.std.specs.Prelude.{◌≡◌, ◌≤◌, ◌*◌, ◌&&◌, ℤ, IfOk, length, map};
 ghost use Rattle.std.specs.Ordering.{eq_by_cmp};
 ghost use Rattle.og_base.specs.Calendar.{IsRefDay};
 ghost use Rattle.og_base.specs.Set.{IsExact, set_of};
@@ -12,6 +12,7 @@ use crate::same_key::{TryRow, left_with_others, right_by_key};
 use crate::sought::keys_sought;
 use crate::spans::{AllDays, Spans};
 use og_base::{DayCond, Glue, Instant, NoMemory};
+use og_ops::{PairMap, Whole};
 use og_par::{Gate, par_rows};
 use og_rel::Rel;
 use std::alloc::Global;
@@ -68,21 +69,57 @@ where
         (relation_at R.Fixed.cmp R.meaning left.now d) (relation_at R.Fixed.cmp R.meaning right.now d))) }
     ensures size { IfOk result (λ r. length r ≤ length left.now * length right.now) }
 {
-    key_span_join(rt, alloc, workers, left, right, keys, &AllDays, cond, gate)
+    key_join_with(rt, alloc, workers, left, right, keys, cond, &Whole, gate)
 }
 
-/// On every day the glued rows whose keys are equal and for which the condition holds, where it holds
-/// on no day of two rows whose spans are empty or do not overlap. Where there are few left rows, right
-/// rows that have none of their keys are passed over. The others are put in the order of their keys,
-/// and each left row is tried with those that have its key and whose spans overlap its own; the left
-/// rows are shared out among the workers. At most the product of rows. Refused only for want of
-/// memory.
+/// On every day what the map makes of the pairs of rows whose keys are equal and for which, glued, the
+/// condition holds. At most the product of rows. Refused only for want of memory.
+pub fn key_join_with<
+    H: Threads + Sync,
+    R: Glue + Drop + Sync + Send,
+    Q: Keys<R> + Sync,
+    C: DayCond<R> + Sync,
+    M: PairMap<R> + Sync,
+    G: Gate + Sync,
+>(
+    rt: &H,
+    alloc: Global,
+    workers: usize,
+    left: &Rel<R>,
+    right: &Rel<R>,
+    keys: &Q,
+    cond: &C,
+    pair_map: &M,
+    gate: &G,
+) -> Result<Rel<R>, NoMemory>
+where
+    R::Fixed: Send,
+    Q::Key: Sync,
+    requires least { 1 ≤ workers }
+    requires most { workers ≤ max_workers }
+    ensures law { IfOk result (λ r. (d : ℤ) → IsRefDay d → relation_at R.Fixed.cmp R.meaning r d
+        ≡ set_of R.Fixed.cmp (map (M.image pair_map.now d) (joined R.glued (λ x y. eq_by_cmp Q.Key.cmp (Q.left_of keys.now x) (Q.right_of keys.now y) && C.holds cond.now d (R.glued x y))
+        (relation_at R.Fixed.cmp R.meaning left.now d) (relation_at R.Fixed.cmp R.meaning right.now d)))) }
+    ensures size { IfOk result (λ r. length r ≤ length left.now * length right.now) }
+{
+    key_span_join(
+        rt, alloc, workers, left, right, keys, &AllDays, cond, pair_map, gate,
+    )
+}
+
+/// On every day what the map makes of the pairs of rows whose keys are equal and for which, glued, the
+/// condition holds, where it holds on no day of two rows whose spans are empty or do not overlap. Where
+/// there are few left rows, right rows that have none of their keys are passed over. The others are put
+/// in the order of their keys, and each left row is tried with those that have its key and whose spans
+/// overlap its own; the left rows are shared out among the workers. At most the product of rows. Refused
+/// only for want of memory.
 pub fn key_span_join<
     H: Threads + Sync,
     R: Glue + Drop + Sync + Send,
     Q: Keys<R> + Sync,
     S: Spans<R> + Sync,
     C: DayCond<R> + Sync,
+    M: PairMap<R> + Sync,
     G: Gate + Sync,
 >(
     rt: &H,
@@ -93,6 +130,7 @@ pub fn key_span_join<
     keys: &Q,
     spans: &S,
     cond: &C,
+    pair_map: &M,
     gate: &G,
 ) -> Result<Rel<R>, NoMemory>
 where
@@ -102,8 +140,8 @@ where
     requires most { workers ≤ max_workers }
     requires told { AreTold R.glued R.meaning (C.holds cond.now) (S.left_of spans.now) (S.right_of spans.now) left.now right.now }
     ensures law { IfOk result (λ r. (d : ℤ) → IsRefDay d → relation_at R.Fixed.cmp R.meaning r d
-        ≡ set_of R.Fixed.cmp (joined R.glued (λ x y. eq_by_cmp Q.Key.cmp (Q.left_of keys.now x) (Q.right_of keys.now y) && C.holds cond.now d (R.glued x y))
-        (relation_at R.Fixed.cmp R.meaning left.now d) (relation_at R.Fixed.cmp R.meaning right.now d))) }
+        ≡ set_of R.Fixed.cmp (map (M.image pair_map.now d) (joined R.glued (λ x y. eq_by_cmp Q.Key.cmp (Q.left_of keys.now x) (Q.right_of keys.now y) && C.holds cond.now d (R.glued x y))
+        (relation_at R.Fixed.cmp R.meaning left.now d) (relation_at R.Fixed.cmp R.meaning right.now d)))) }
     ensures size { IfOk result (λ r. length r ≤ length left.now * length right.now) }
 {
     let sought = keys_sought(alloc, keys, left, right.len())?;
@@ -114,7 +152,11 @@ where
         alloc,
         workers,
         rows.as_slice(),
-        &TryRow { spans, cond },
+        &TryRow {
+            spans,
+            cond,
+            pair_map,
+        },
         gate,
     )?;
     relation_of(alloc, hits)

@@ -18,7 +18,7 @@ use crate::sought::{Sought, is_sought};
 use crate::span_key::{SpanKey, do_overlap};
 use crate::spans::Spans;
 use og_base::{DayCond, FixedPeriod, Glue, NoMemory, RtSet};
-use og_ops::{Hit, KeyedRow, test_pair};
+use og_ops::{Hit, KeyedRow, PairMap, test_pair_with};
 use og_par::Piece;
 use og_rel::Rel;
 use std::alloc::Global;
@@ -102,9 +102,9 @@ pub(crate) fn left_with_others<'s, 'a, R: Glue + Drop, Q: Keys<R>, S: Spans<R>>(
     requires rising { ByKey (on (λ s. s.key) Q.Key.cmp) others.now }
     requires keys { HaveDayKeys R.meaning (Q.right_of keys.now) others.now }
     requires spans { HaveSpans (S.right_of spans.now) others.now }
-    ensures rows { IfOk result (λ v. (meets : R.Fixed → R.Fixed → Bool) (d : ℤ) → IsRefDay d →
-        joined_same_key R.meaning R.glued meets v.items d
-        ≡ joined R.glued (λ x y. eq_by_cmp Q.Key.cmp (Q.left_of keys.now x) (Q.right_of keys.now y) && meets x y) (present R.meaning left.now d) (present R.meaning (lent others.now) d)) }
+    ensures rows { IfOk result (λ v. (put : R.Fixed → R.Fixed → R.Fixed) (meets : R.Fixed → R.Fixed → Bool) (d : ℤ) → IsRefDay d →
+        joined_same_key R.meaning put meets v.items d
+        ≡ joined put (λ x y. eq_by_cmp Q.Key.cmp (Q.left_of keys.now x) (Q.right_of keys.now y) && meets x y) (present R.meaning left.now d) (present R.meaning (lent others.now) d)) }
     ensures near { IfOk result (λ v. (holds : ℤ → R.Fixed → Bool) →
         AreTold R.glued R.meaning holds (S.left_of spans.now) (S.right_of spans.now) left.now (lent others.now) → All (AreNear R.glued R.meaning holds (S.left_of spans.now)) v.items) }
     ensures most { IfOk result (λ v. All (λ s. length s.others.now ≤ length others.now) v.items) }
@@ -138,20 +138,21 @@ fn of_key<'s, 'a, R, K: Ord + Drop>(
 
 // Makes the hits of a left row and the right rows with its key, where their spans tell which can meet.
 #[derive(Drop)]
-pub(crate) struct TryRow<'c, S, C> {
+pub(crate) struct TryRow<'c, S, C, M> {
     pub(crate) spans: &'c S,
     pub(crate) cond: &'c C,
+    pub(crate) pair_map: &'c M,
 }
 
-impl<'c, 's, 'a, R: Glue + Drop, K, S: Spans<R>, C: DayCond<R>> Piece<
+impl<'c, 's, 'a, R: Glue + Drop, K, S: Spans<R>, C: DayCond<R>, M: PairMap<R>> Piece<
     SameKey<'s, 'a, R, SpanKey<K>>,
-> for TryRow<'c, S, C> {
+> for TryRow<'c, S, C, M> {
     ghost use Rattle.og_ops.specs.Lending.{lent};
     ghost use Rattle.og_join.specs.SameKey.{AreHits, AreNear};
 
     type Out = Hit<R>;
 
-    ghost gives = { λ piece s made. AreNear R.glued R.meaning (C.holds piece.cond.now) (S.left_of piece.spans.now) s → AreHits R.glued (C.holds piece.cond.now) R.meaning s.row.now s.days.now (lent s.others.now) made };
+    ghost gives = { λ piece s made. AreNear R.glued R.meaning (C.holds piece.cond.now) (S.left_of piece.spans.now) s → AreHits R.glued (M.image piece.pair_map.now) (C.holds piece.cond.now) R.meaning s.row.now s.days.now (lent s.others.now) made };
 
     fn make(
         &self,
@@ -160,62 +161,65 @@ impl<'c, 's, 'a, R: Glue + Drop, K, S: Spans<R>, C: DayCond<R>> Piece<
         out: &mut Vec<Hit<R>>,
     ) -> Result<(), NoMemory> {
         let span = self.spans.left(item.row);
-        try_others(alloc, &span, item, self.cond, out)
+        try_others(alloc, &span, item, self.cond, self.pair_map, out)
     }
 }
 
 // Adds the hits of the row, whose span this is, and each of its others, where spans tell which can meet.
-fn try_others<R: Glue + Drop, K, C: DayCond<R>>(
+fn try_others<R: Glue + Drop, K, C: DayCond<R>, M: PairMap<R>>(
     alloc: Global,
     span: &FixedPeriod,
     item: &SameKey<'_, '_, R, SpanKey<K>>,
     cond: &C,
+    pair_map: &M,
     out: &mut Vec<Hit<R>>,
 ) -> Result<(), NoMemory>
-    ensures { OnOk result ((made : List (Hit R)) × (All (IsNear R.glued R.meaning (C.holds cond.now) span.now item.now.row.now) item.now.others.now → AreHits R.glued (C.holds cond.now) R.meaning item.now.row.now item.now.days.now (lent item.now.others.now) made)
+    ensures { OnOk result ((made : List (Hit R)) × (All (IsNear R.glued R.meaning (C.holds cond.now) span.now item.now.row.now) item.now.others.now → AreHits R.glued (M.image pair_map.now) (C.holds cond.now) R.meaning item.now.row.now item.now.days.now (lent item.now.others.now) made)
         × (out.new.items ≡ out.old.items ++ made)) }
 {
     let others = item.others;
     'others: for other in others {
-        try_near(alloc, span, item.row, item.days, other, cond, out)?;
+        try_near(alloc, span, item.row, item.days, other, cond, pair_map, out)?;
     }
     Ok(())
 }
 
 // Adds the hit of the row, whose span this is, and the other, where their spans overlap.
-fn try_near<R: Glue + Drop, K, C: DayCond<R>>(
+fn try_near<R: Glue + Drop, K, C: DayCond<R>, M: PairMap<R>>(
     alloc: Global,
     span: &FixedPeriod,
     row: &R,
     days: &RtSet,
     other: &KeyedRow<'_, R, SpanKey<K>>,
     cond: &C,
+    pair_map: &M,
     out: &mut Vec<Hit<R>>,
 ) -> Result<(), NoMemory>
     ensures { OnOk result ((made : List (Hit R)) × (IsNear R.glued R.meaning (C.holds cond.now) span.now row.now other.now
-        → AreHits R.glued (C.holds cond.now) R.meaning row.now days.now ((other.now.row.now, other.now.days.now) ∷ []) made)
+        → AreHits R.glued (M.image pair_map.now) (C.holds cond.now) R.meaning row.now days.now ((other.now.row.now, other.now.days.now) ∷ []) made)
         × (out.new.items ≡ out.old.items ++ made)) }
 {
     if !do_overlap(span, &other.key.span) {
         return Ok(());
     }
-    try_pair(alloc, row, days, other.row, other.days, cond, out)
+    try_pair(alloc, row, days, other.row, other.days, cond, pair_map, out)
 }
 
-// Adds the two rows glued on the days on which both are present and the condition holds, where there
-// are such days.
-fn try_pair<R: Glue + Drop, C: DayCond<R>>(
+// Adds what the map makes of the two rows, on the days on which both are present and the condition holds,
+// where there are such days.
+fn try_pair<R: Glue + Drop, C: DayCond<R>, M: PairMap<R>>(
     alloc: Global,
     left: &R,
     left_days: &RtSet,
     right: &R,
     right_days: &RtSet,
     cond: &C,
+    pair_map: &M,
     out: &mut Vec<Hit<R>>,
 ) -> Result<(), NoMemory>
-    ensures { OnOk result ((made : List (Hit R)) × AreHits R.glued (C.holds cond.now) R.meaning left.now left_days.now ((right.now, right_days.now) ∷ []) made × (out.new.items ≡ out.old.items ++ made)) }
+    ensures { OnOk result ((made : List (Hit R)) × AreHits R.glued (M.image pair_map.now) (C.holds cond.now) R.meaning left.now left_days.now ((right.now, right_days.now) ∷ []) made × (out.new.items ≡ out.old.items ++ made)) }
 {
-    match test_pair(alloc, left, left_days, right, right_days, cond)? {
+    match test_pair_with(alloc, left, left_days, right, right_days, cond, pair_map)? {
         Some(hit) => out.push(hit)?,
         None => {}
     }

@@ -1,5 +1,5 @@
 //! The join of two relations on spans that overlap.
-ghost use Rattle.std.specs.Prelude.{◌≡◌, ◌≤◌, ◌*◌, ℤ, IfOk, length};
+ghost use Rattle.std.specs.Prelude.{◌≡◌, ◌≤◌, ◌*◌, ℤ, IfOk, length, map};
 ghost use Rattle.og_base.specs.Calendar.{IsRefDay};
 ghost use Rattle.og_base.specs.Set.{set_of};
 ghost use Rattle.og_base.specs.declared.range.FixedPeriod.{FixedPeriod};
@@ -12,6 +12,7 @@ use crate::blocks::join_block;
 use crate::outers::{OfLeft, OfRight, rising_spans};
 use crate::tries::TryPair;
 use og_base::{DayCond, ExtDay, FixedPeriod, Glue, Instant, NoMemory};
+use og_ops::{PairMap, Whole};
 use og_par::Gate;
 use og_rel::Rel;
 use std::alloc::Global;
@@ -70,10 +71,8 @@ fn all_days() -> FixedPeriod
 }
 
 /// On every day the glued rows for which the condition holds, where it holds on no day of two rows
-/// whose spans are empty or do not overlap. Rows with an empty span are left out, the others sorted by
-/// the first days of their spans. The left ones are cut into blocks; of each block the pairs whose
-/// spans overlap are shared out among the workers and tried. At most the product of rows. Refused
-/// only for want of memory.
+/// whose spans are empty or do not overlap. At most the product of rows. Refused only for want of
+/// memory.
 pub fn overlap_join<
     H: Threads + Sync,
     R: Glue + Drop + Sync + Send,
@@ -100,6 +99,42 @@ where
         (relation_at R.Fixed.cmp R.meaning left.now d) (relation_at R.Fixed.cmp R.meaning right.now d))) }
     ensures size { IfOk result (λ r. length r ≤ length left.now * length right.now) }
 {
+    overlap_join_with(rt, alloc, workers, left, right, spans, cond, &Whole, gate)
+}
+
+/// On every day what the map makes of the pairs of rows for which, glued, the condition holds, where it
+/// holds on no day of two rows whose spans are empty or do not overlap. Rows with an empty span are left
+/// out, the others sorted by the first days of their spans. The left ones are cut into blocks; of each
+/// block the pairs whose spans overlap are shared out among the workers and tried. At most the product
+/// of rows. Refused only for want of memory.
+pub fn overlap_join_with<
+    H: Threads + Sync,
+    R: Glue + Drop + Sync + Send,
+    Q: Spans<R>,
+    C: DayCond<R> + Sync,
+    M: PairMap<R> + Sync,
+    G: Gate + Sync,
+>(
+    rt: &H,
+    alloc: Global,
+    workers: usize,
+    left: &Rel<R>,
+    right: &Rel<R>,
+    spans: &Q,
+    cond: &C,
+    pair_map: &M,
+    gate: &G,
+) -> Result<Rel<R>, NoMemory>
+where
+    R::Fixed: Send,
+    requires least { 1 ≤ workers }
+    requires most { workers ≤ max_workers }
+    requires told { AreTold R.glued R.meaning (C.holds cond.now) (Q.left_of spans.now) (Q.right_of spans.now) left.now right.now }
+    ensures law { IfOk result (λ r. (d : ℤ) → IsRefDay d → relation_at R.Fixed.cmp R.meaning r d
+        ≡ set_of R.Fixed.cmp (map (M.image pair_map.now d) (joined R.glued (λ x y. C.holds cond.now d (R.glued x y))
+        (relation_at R.Fixed.cmp R.meaning left.now d) (relation_at R.Fixed.cmp R.meaning right.now d)))) }
+    ensures size { IfOk result (λ r. length r ≤ length left.now * length right.now) }
+{
     let lefts = rising_spans(alloc, left, &OfLeft { spans })?;
     let rights = rising_spans(alloc, right, &OfRight { spans })?;
     let right_spans = rights.as_slice();
@@ -113,6 +148,7 @@ where
             left_spans,
             right_spans,
             cond,
+            pair_map,
         };
         joined.append(join_block(rt, alloc, workers, &block, gate)?)?;
         rest = later;

@@ -4,27 +4,29 @@ ghost use Rattle.og_ops.specs.declared.pair.Hit.{Hit};
 ghost use Rattle.og_join.specs.Tried.{IsMadeOf, rows_meet};
 
 use og_base::{DayCond, Glue, NoMemory, Outer};
-use og_ops::{Hit, test_pair};
+use og_ops::{Hit, PairMap, test_pair_with};
 use og_par::Piece;
 use og_rel::Rel;
 use std::alloc::Global;
 
-// Makes of a pair of places of spans the glued row of their rows, where it has days.
+// Makes of a pair of places of spans what the map makes of their rows, where it has days.
 #[derive(Drop)]
-pub(crate) struct TryPair<'a, R, C> {
+pub(crate) struct TryPair<'a, R, C, M> {
     pub(crate) left: &'a Rel<R>,
     pub(crate) right: &'a Rel<R>,
     pub(crate) left_spans: &'a [Outer],
     pub(crate) right_spans: &'a [Outer],
     pub(crate) cond: &'a C,
+    pub(crate) pair_map: &'a M,
 }
 
-impl<'a, R: Glue + Drop, C: DayCond<R>> Piece<(usize, usize)> for TryPair<'a, R, C> {
+impl<'a, R: Glue + Drop, C: DayCond<R>, M: PairMap<R>> Piece<(usize, usize)>
+    for TryPair<'a, R, C, M> {
     ghost use Rattle.og_join.specs.Tried.{IsMadeOf, spans_meet};
 
     type Out = Hit<R>;
 
-    ghost gives = { λ piece places made. IsMadeOf R.meaning
+    ghost gives = { λ piece places made. IsMadeOf (M.image piece.pair_map.now) R.meaning
         (spans_meet R.glued R.meaning (C.holds piece.cond.now) piece.left.now piece.right.now piece.left_spans.now piece.right_spans.now places) made };
 
     fn make(
@@ -44,6 +46,7 @@ impl<'a, R: Glue + Drop, C: DayCond<R>> Piece<(usize, usize)> for TryPair<'a, R,
                 self.right,
                 rights[j].row,
                 self.cond,
+                self.pair_map,
                 out,
             )?;
         }
@@ -51,29 +54,31 @@ impl<'a, R: Glue + Drop, C: DayCond<R>> Piece<(usize, usize)> for TryPair<'a, R,
     }
 }
 
-// Adds the glued row of the rows at two places, where it has days.
-fn try_rows<R: Glue + Drop, C: DayCond<R>>(
+// Adds what the map makes of the rows at two places, where it has days.
+fn try_rows<R: Glue + Drop, C: DayCond<R>, M: PairMap<R>>(
     alloc: Global,
     left: &Rel<R>,
     m: usize,
     right: &Rel<R>,
     n: usize,
     cond: &C,
+    pair_map: &M,
     out: &mut Vec<Hit<R>>,
 ) -> Result<(), NoMemory>
-    ensures { OnOk result ((made : List (Hit R)) × IsMadeOf R.meaning (rows_meet R.glued R.meaning (C.holds cond.now) left.now right.now m n) made
+    ensures { OnOk result ((made : List (Hit R)) × IsMadeOf (M.image pair_map.now) R.meaning (rows_meet R.glued R.meaning (C.holds cond.now) left.now right.now m n) made
         × (out.new.items ≡ out.old.items ++ made)) }
 {
     if m >= left.len() || n >= right.len() {
         return Ok(());
     }
-    match test_pair(
+    match test_pair_with(
         alloc,
         left.row(m),
         left.days(m),
         right.row(n),
         right.days(n),
         cond,
+        pair_map,
     )? {
         Some(hit) => {
             out.push(hit)?;

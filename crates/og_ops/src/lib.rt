@@ -4,9 +4,10 @@
 //! the rows of one day, and gives no more rows than it says: `Select`, `Restrict`, `Project`,
 //! `Split`, `Product`, `Union`, `Difference` and `Intersection` (specs/Plain.antt). `semijoin`
 //! keeps a row of the left on exactly those of its days on which it meets some row of the right, or
-//! none, by a `Matching` (specs/Wanted.antt). `test_pair` glues two rows on exactly the days on
-//! which both are present and a condition holds of the glued row (specs/Days.antt). All of it holds
-//! for every type of rows that has the laws of og_base.
+//! none, by a `Matching` (specs/Wanted.antt). `test_pair` glues two rows on
+//! exactly the days on which both are present and a condition holds of the glued row (specs/Days.antt);
+//! `test_pair_with` makes of them what a `PairMap` says. All of it holds for every type of rows that has
+//! the laws of og_base.
 //!
 //! No tests here: scripts reach it, so the cases test it (docs/CASES.md).
 #![tactic(auto)]
@@ -24,7 +25,7 @@ mod split;
 
 pub use matching::{Equality, Glued, Matching};
 pub use operator::{BinaryOp, UnaryOp};
-pub use pair::{Hit, test_pair};
+pub use pair::{Hit, PairMap, Whole, test_pair, test_pair_with};
 pub use product::Product;
 pub use project::Project;
 pub use semijoins::{KeyedRow, semijoin, with_key};

@@ -2,6 +2,7 @@ use Rattle.std.proofs.Common.{◌≡◌, ◌≤◌, ◌*◌, ◌++◌, ◌&&◌,
 use Rattle.std.proofs.lemmas.Result.{IfOk-weaker}
 use Rattle.og_base.specs.Calendar.{IsRefDay}
 use Rattle.og_plan.specs.Meaning.{all_hold, matches}
+use Rattle.og_exec.specs.Images.{images}
 use Rattle.og_exec.specs.Keys.{have_one_key}
 use Rattle.og_exec.specs.Answers.{rel_of}
 use Rattle.og_exec.specs.Tables.{rows_on}
@@ -10,11 +11,12 @@ use Rattle.og_exec.proofs.keys.key_joined.Goals as goal
 
 pub returns-clause-law : goal.returns-clause-law
 returns-clause-law g c =
+    let image = g.M.PairMap.image c.args.pair_map.now in
     of_made (λ rel. (d : ℤ) → IsRefDay d → rows_on rel d
-    ≡ matches (λ x y. have_one_key c.args.pairs.now x y && all_hold d c.args.rest.now (x ++ y)) (rows_on (rel_of c.args.inputs.left) d) (rows_on (rel_of c.args.inputs.right) d)) _ _ c.made.ensures
+    ≡ images (image d) (matches (λ x y. have_one_key c.args.pairs.now x y && all_hold d c.args.rest.now (x ++ y)) (rows_on (rel_of c.args.inputs.left) d) (rows_on (rel_of c.args.inputs.right) d))) _ _ c.made.ensures
     (IfOk-weaker c.columns_joined.result _ _
     (λ r law d day. law d day
-    ∙ ap₂ (λ left right. matches (λ x y. have_one_key c.args.pairs.now x y && all_hold d c.args.rest.now (x ++ y)) (rows_on left d) (rows_on right d)) c.rel.ensures c.rel-2.ensures)
+    ∙ ap₂ (λ left right. images (image d) (matches (λ x y. have_one_key c.args.pairs.now x y && all_hold d c.args.rest.now (x ++ y)) (rows_on left d) (rows_on right d))) c.rel.ensures c.rel-2.ensures)
     c.columns_joined.ensures.law)
 
 pub returns-clause-size : goal.returns-clause-size

@@ -1,17 +1,17 @@
-use Rattle.std.proofs.Common.{◌≡◌, ◌++◌, ◌&&◌, ℤ, true, filter, length, map, sym, ap, subst, ◌∙◌}
+use Rattle.std.proofs.Common.{◌≡◌, ◌++◌, ◌&&◌, ℤ, true, filter, length, sym, ap, subst, ◌∙◌, arith}
 use Rattle.std.specs.List.{All}
 use Rattle.std.proofs.lemmas.Result.{IfOk-weaker}
 use Rattle.og_base.specs.Calendar.{IsRefDay}
-use Rattle.og_base.specs.Set.{set_of}
-use Rattle.og_value.specs.Order.{row_order}
 use Rattle.og_query.specs.Queries.{image}
 use Rattle.og_plan.specs.Meaning.{all_hold, do_overlap, matches, node_rows}
 use Rattle.og_plan.specs.Shapes.{scans_of}
 use Rattle.og_plan.specs.Sizes.{node_size, plan_size}
 use Rattle.og_plan.proofs.PlanEquations.{fold-Filter, fold-Project, fold-Semis, fold-Product, fold-KeyJoin, fold-OverlapJoin}
 use Rattle.og_exec.specs.Answers.{rel_of}
+use Rattle.og_exec.specs.Images.{images}
 use Rattle.og_exec.specs.Keys.{have_one_key}
 use Rattle.og_exec.specs.Tables.{AreThere, rows_at, rows_on, sizes_of}
+use Rattle.og_exec.proofs.MatchLemmas.{matches-whole}
 use Rattle.og_exec.proofs.NodeLemmas.{sound_Product, sound_KeyJoin, sound_OverlapJoin, sound_Combine, there_Filter, there_Product, there_KeyJoin, there_OverlapJoin, there_Project, there_Combine, there_Semis, rows_KeyJoin, wide_OverlapJoin, of_one, of_two, size_of_one, size_of_two}
 use Rattle.og_exec.proofs.ShapeLemmas.{day_rows}
 use Rattle.og_exec.proofs.run.+answer_of.Goals as goal
@@ -69,8 +69,8 @@ answer_of-both-requires-in-Combine-clause-tables_left g t c κs within = (there_
 pub answer_of-both-requires-in-Combine-clause-tables_right : goal.answer_of-both-requires-in-Combine-clause-tables_right
 answer_of-both-requires-in-Combine-clause-tables_right g t c κs within = (there_Combine (g.T.Tables.named c.args.tables.now) c.args.plan.now c.requires.tables c.in-Combine.op c.in-Combine.left c.in-Combine.right c.in-Combine.is).1
 
-pub answer_of-answer_of-requires-in-Project-clause-tables : goal.answer_of-answer_of-requires-in-Project-clause-tables
-answer_of-answer_of-requires-in-Project-clause-tables g t c κs within =
+pub answer_of-images_of-requires-clause-tables : goal.answer_of-images_of-requires-clause-tables
+answer_of-images_of-requires-clause-tables g t c κs within =
     let named = g.T.Tables.named c.args.tables.now in
     subst (λ q. AreThere named (scans_of q)) (sym c.get-in-Project.ensures) (there_Project named c.args.plan.now c.requires.tables c.in-Project.input c.in-Project.items c.in-Project.is)
 
@@ -112,7 +112,7 @@ answer_of-returns-in_ok-inputs-in-Product-clause-law g t c =
     let i = c.in-Product in
     let inputs = c.in_ok-inputs-in-Product in
     IfOk-weaker c.multiplied.result _ _
-    (λ a law d day. of_two named d (matches (λ _ _. true)) c.args.plan.now i.left i.right (rows_on (rel_of a) d) (rel_of inputs.inputs.left) (rel_of inputs.inputs.right)
+    (λ a law d day. of_two named d (matches (λ _ _. true)) (day_rows named d c.args.plan.now) i.left i.right (rows_on (rel_of a) d) (rel_of inputs.inputs.left) (rel_of inputs.inputs.right)
     (ap (day_rows named d) i.is ∙ fold-Product (node_rows d (rows_at named d)) i.left i.right) (law d day) (inputs.ensures.law_left d day) (inputs.ensures.law_right d day)) c.multiplied.ensures.law
 
 pub answer_of-returns-in_ok-inputs-in-KeyJoin-clause-law : goal.answer_of-returns-in_ok-inputs-in-KeyJoin-clause-law
@@ -121,8 +121,10 @@ answer_of-returns-in_ok-inputs-in-KeyJoin-clause-law g t c =
     let i = c.in-KeyJoin in
     let inputs = c.in_ok-inputs-in-KeyJoin in
     IfOk-weaker c.key_joined.result _ _
-    (λ a law d day. of_two named d (matches (λ x y. have_one_key i.pairs x y && all_hold d i.rest (x ++ y))) c.args.plan.now i.left i.right (rows_on (rel_of a) d) (rel_of inputs.inputs.left) (rel_of inputs.inputs.right)
-    (rows_KeyJoin named d c.args.plan.now i.left i.right i.pairs i.rest i.is c.requires.sound c.requires.tables) (law d day) (inputs.ensures.law_left d day) (inputs.ensures.law_right d day)) c.key_joined.ensures.law
+    (λ a law d day. of_two named d (λ l r. images (λ row. row) (matches (λ x y. have_one_key i.pairs x y && all_hold d i.rest (x ++ y)) l r))
+    (day_rows named d c.args.plan.now) i.left i.right (rows_on (rel_of a) d) (rel_of inputs.inputs.left) (rel_of inputs.inputs.right)
+    (rows_KeyJoin named d c.args.plan.now i.left i.right i.pairs i.rest i.is c.requires.sound c.requires.tables
+    ∙ matches-whole (λ x y. have_one_key i.pairs x y && all_hold d i.rest (x ++ y)) (day_rows named d i.left) (day_rows named d i.right)) (law d day) (inputs.ensures.law_left d day) (inputs.ensures.law_right d day)) c.key_joined.ensures.law
 
 pub answer_of-returns-in_ok-inputs-in-OverlapJoin-clause-law : goal.answer_of-returns-in_ok-inputs-in-OverlapJoin-clause-law
 answer_of-returns-in_ok-inputs-in-OverlapJoin-clause-law g t c =
@@ -134,8 +136,10 @@ answer_of-returns-in_ok-inputs-in-OverlapJoin-clause-law g t c =
     subst (All (λ x. length x ≡ width)) (sym (inputs.ensures.law_left d day))
     (wide_OverlapJoin named d c.args.plan.now i.left i.right c.get-in-OverlapJoin.result.now i.pair i.rest width i.is c.requires.sound c.requires.tables c.get-in-OverlapJoin.ensures c.in_ok-width-in-OverlapJoin.ensures) in
     IfOk-weaker c.overlap_joined.result _ _
-    (λ a law d day. of_two named d (matches (λ x y. do_overlap x y i.pair && all_hold d i.rest (x ++ y))) c.args.plan.now i.left i.right (rows_on (rel_of a) d) (rel_of inputs.inputs.left) (rel_of inputs.inputs.right)
-    (ap (day_rows named d) i.is ∙ fold-OverlapJoin (node_rows d (rows_at named d)) i.left i.right i.pair i.rest) (law d day (wide d day)) (inputs.ensures.law_left d day) (inputs.ensures.law_right d day)) c.overlap_joined.ensures.law
+    (λ a law d day. of_two named d (λ l r. images (λ row. row) (matches (λ x y. do_overlap x y i.pair && all_hold d i.rest (x ++ y)) l r))
+    (day_rows named d c.args.plan.now) i.left i.right (rows_on (rel_of a) d) (rel_of inputs.inputs.left) (rel_of inputs.inputs.right)
+    (ap (day_rows named d) i.is ∙ fold-OverlapJoin (node_rows d (rows_at named d)) i.left i.right i.pair i.rest
+    ∙ matches-whole (λ x y. do_overlap x y i.pair && all_hold d i.rest (x ++ y)) (day_rows named d i.left) (day_rows named d i.right)) (law d day (wide d day)) (inputs.ensures.law_left d day) (inputs.ensures.law_right d day)) c.overlap_joined.ensures.law
 
 pub both-answer_of-requires-clause-tables : goal.both-answer_of-requires-clause-tables
 both-answer_of-requires-clause-tables g t c κs within = subst (λ q. AreThere (g.T.Tables.named c.args.tables.now) (scans_of q)) (sym c.get.ensures) c.requires.tables_left
@@ -161,23 +165,20 @@ answer_of-returns-in_ok-input-in-Filter-clause-size g t c =
     (λ a size. size_of_one sizes c.args.plan.now i.input c.get.result.now (length (rel_of a)) (rel_of input.input)
     (ap (plan_size sizes) i.is ∙ fold-Filter (node_size sizes) i.input i.parts) c.get.ensures size input.ensures.size) c.filtered.ensures.size
 
-pub answer_of-returns-in_ok-input-in-Project-clause-law : goal.answer_of-returns-in_ok-input-in-Project-clause-law
-answer_of-returns-in_ok-input-in-Project-clause-law g t c =
+pub answer_of-returns-in-Project-clause-law : goal.answer_of-returns-in-Project-clause-law
+answer_of-returns-in-Project-clause-law g t c =
     let named = g.T.Tables.named c.args.tables.now in
     let i = c.in-Project in
-    let input = c.in_ok-input-in-Project in
-    IfOk-weaker c.projected.result _ _
-    (λ a law d day. of_one named d (λ rows. set_of row_order (map (image d i.items) rows)) c.args.plan.now i.input c.get-in-Project.result.now (rows_on (rel_of a) d) (rel_of input.input)
-    (ap (day_rows named d) i.is ∙ fold-Project (node_rows d (rows_at named d)) i.input i.items) c.get-in-Project.ensures (law d day) (input.ensures.law d day)) c.projected.ensures.law
+    IfOk-weaker c.images_of.result _ _
+    (λ a law d day. law d day ∙ ap (λ plan. images (image d i.items) (day_rows named d plan)) c.get-in-Project.ensures
+    ∙ sym (ap (day_rows named d) i.is ∙ fold-Project (node_rows d (rows_at named d)) i.input i.items)) c.images_of.ensures.law
 
-pub answer_of-returns-in_ok-input-in-Project-clause-size : goal.answer_of-returns-in_ok-input-in-Project-clause-size
-answer_of-returns-in_ok-input-in-Project-clause-size g t c =
+pub answer_of-returns-in-Project-clause-size : goal.answer_of-returns-in-Project-clause-size
+answer_of-returns-in-Project-clause-size g t c =
     let sizes = sizes_of (g.T.Tables.named c.args.tables.now) in
     let i = c.in-Project in
-    let input = c.in_ok-input-in-Project in
-    IfOk-weaker c.projected.result _ _
-    (λ a size. size_of_one sizes c.args.plan.now i.input c.get-in-Project.result.now (length (rel_of a)) (rel_of input.input)
-    (ap (plan_size sizes) i.is ∙ fold-Project (node_size sizes) i.input i.items) c.get-in-Project.ensures size input.ensures.size) c.projected.ensures.size
+    IfOk-weaker c.images_of.result _ _
+    (λ a size. omega (arith, size, ap (plan_size sizes) c.get-in-Project.ensures, ap (plan_size sizes) i.is ∙ fold-Project (node_size sizes) i.input i.items)) c.images_of.ensures.size
 
 pub answer_of-returns-in_ok-input-in-Semis-clause-size : goal.answer_of-returns-in_ok-input-in-Semis-clause-size
 answer_of-returns-in_ok-input-in-Semis-clause-size g t c =
@@ -187,3 +188,76 @@ answer_of-returns-in_ok-input-in-Semis-clause-size g t c =
     IfOk-weaker c.sifted.result _ _
     (λ a size. size_of_one sizes c.args.plan.now i.input c.get-in-Semis.result.now (length (rel_of a)) (rel_of input.input)
     (ap (plan_size sizes) i.is ∙ fold-Semis (node_size sizes) i.input i.semis) c.get-in-Semis.ensures size input.ensures.size) c.sifted.ensures.size
+
+pub images_of-both-requires-clause-sound_left : goal.images_of-both-requires-clause-sound_left
+images_of-both-requires-clause-sound_left g t c κs within = (sound_KeyJoin c.args.plan.now c.requires.sound c.in-KeyJoin.left c.in-KeyJoin.right c.in-KeyJoin.pairs c.in-KeyJoin.rest c.in-KeyJoin.is).0.first
+
+pub images_of-both-requires-clause-sound_right : goal.images_of-both-requires-clause-sound_right
+images_of-both-requires-clause-sound_right g t c κs within = (sound_KeyJoin c.args.plan.now c.requires.sound c.in-KeyJoin.left c.in-KeyJoin.right c.in-KeyJoin.pairs c.in-KeyJoin.rest c.in-KeyJoin.is).0.second
+
+pub images_of-both-requires-clause-tables_left : goal.images_of-both-requires-clause-tables_left
+images_of-both-requires-clause-tables_left g t c κs within = (there_KeyJoin (g.T.Tables.named c.args.tables.now) c.args.plan.now c.requires.tables c.in-KeyJoin.left c.in-KeyJoin.right c.in-KeyJoin.pairs c.in-KeyJoin.rest c.in-KeyJoin.is).0
+
+pub images_of-both-requires-clause-tables_right : goal.images_of-both-requires-clause-tables_right
+images_of-both-requires-clause-tables_right g t c κs within = (there_KeyJoin (g.T.Tables.named c.args.tables.now) c.args.plan.now c.requires.tables c.in-KeyJoin.left c.in-KeyJoin.right c.in-KeyJoin.pairs c.in-KeyJoin.rest c.in-KeyJoin.is).1
+
+pub images_of-both-requires-in-OverlapJoin-clause-sound_left : goal.images_of-both-requires-in-OverlapJoin-clause-sound_left
+images_of-both-requires-in-OverlapJoin-clause-sound_left g t c κs within = (sound_OverlapJoin c.args.plan.now c.requires.sound c.in-OverlapJoin.left c.in-OverlapJoin.right c.in-OverlapJoin.pair c.in-OverlapJoin.rest c.in-OverlapJoin.is).first
+
+pub images_of-both-requires-in-OverlapJoin-clause-sound_right : goal.images_of-both-requires-in-OverlapJoin-clause-sound_right
+images_of-both-requires-in-OverlapJoin-clause-sound_right g t c κs within = (sound_OverlapJoin c.args.plan.now c.requires.sound c.in-OverlapJoin.left c.in-OverlapJoin.right c.in-OverlapJoin.pair c.in-OverlapJoin.rest c.in-OverlapJoin.is).second
+
+pub images_of-both-requires-in-OverlapJoin-clause-tables_left : goal.images_of-both-requires-in-OverlapJoin-clause-tables_left
+images_of-both-requires-in-OverlapJoin-clause-tables_left g t c κs within = (there_OverlapJoin (g.T.Tables.named c.args.tables.now) c.args.plan.now c.requires.tables c.in-OverlapJoin.left c.in-OverlapJoin.right c.in-OverlapJoin.pair c.in-OverlapJoin.rest c.in-OverlapJoin.is).0
+
+pub images_of-both-requires-in-OverlapJoin-clause-tables_right : goal.images_of-both-requires-in-OverlapJoin-clause-tables_right
+images_of-both-requires-in-OverlapJoin-clause-tables_right g t c κs within = (there_OverlapJoin (g.T.Tables.named c.args.tables.now) c.args.plan.now c.requires.tables c.in-OverlapJoin.left c.in-OverlapJoin.right c.in-OverlapJoin.pair c.in-OverlapJoin.rest c.in-OverlapJoin.is).1
+
+pub images_of-returns-in_ok-inputs-in-KeyJoin-clause-size : goal.images_of-returns-in_ok-inputs-in-KeyJoin-clause-size
+images_of-returns-in_ok-inputs-in-KeyJoin-clause-size g t c =
+    let sizes = sizes_of (g.T.Tables.named c.args.tables.now) in
+    let i = c.in-KeyJoin in
+    let inputs = c.in_ok-inputs-in-KeyJoin in
+    IfOk-weaker c.key_joined.result _ _
+    (λ a size. size_of_two sizes c.args.plan.now i.left i.right (length (rel_of a)) (rel_of inputs.inputs.left) (rel_of inputs.inputs.right)
+    (ap (plan_size sizes) i.is ∙ fold-KeyJoin (node_size sizes) i.left i.right i.pairs i.rest) size inputs.ensures.size_left inputs.ensures.size_right) c.key_joined.ensures.size
+
+pub images_of-returns-in_ok-inputs-in-OverlapJoin-clause-size : goal.images_of-returns-in_ok-inputs-in-OverlapJoin-clause-size
+images_of-returns-in_ok-inputs-in-OverlapJoin-clause-size g t c =
+    let sizes = sizes_of (g.T.Tables.named c.args.tables.now) in
+    let i = c.in-OverlapJoin in
+    let inputs = c.in_ok-inputs-in-OverlapJoin in
+    IfOk-weaker c.overlap_joined.result _ _
+    (λ a size. size_of_two sizes c.args.plan.now i.left i.right (length (rel_of a)) (rel_of inputs.inputs.left) (rel_of inputs.inputs.right)
+    (ap (plan_size sizes) i.is ∙ fold-OverlapJoin (node_size sizes) i.left i.right i.pair i.rest) size inputs.ensures.size_left inputs.ensures.size_right) c.overlap_joined.ensures.size
+
+pub images_of-returns-in_ok-inputs-in-KeyJoin-clause-law : goal.images_of-returns-in_ok-inputs-in-KeyJoin-clause-law
+images_of-returns-in_ok-inputs-in-KeyJoin-clause-law g t c =
+    let named = g.T.Tables.named c.args.tables.now in
+    let i = c.in-KeyJoin in
+    let inputs = c.in_ok-inputs-in-KeyJoin in
+    IfOk-weaker c.key_joined.result _ _
+    (λ a law d day. of_two named d (λ l r. images (image d c.args.items.now) (matches (λ x y. have_one_key i.pairs x y && all_hold d i.rest (x ++ y)) l r))
+    (images (image d c.args.items.now) (day_rows named d c.args.plan.now)) i.left i.right (rows_on (rel_of a) d) (rel_of inputs.inputs.left) (rel_of inputs.inputs.right)
+    (ap (λ rows. images (image d c.args.items.now) rows) (rows_KeyJoin named d c.args.plan.now i.left i.right i.pairs i.rest i.is c.requires.sound c.requires.tables))
+    (law d day) (inputs.ensures.law_left d day) (inputs.ensures.law_right d day)) c.key_joined.ensures.law
+
+pub images_of-returns-in_ok-inputs-in-OverlapJoin-clause-law : goal.images_of-returns-in_ok-inputs-in-OverlapJoin-clause-law
+images_of-returns-in_ok-inputs-in-OverlapJoin-clause-law g t c =
+    let named = g.T.Tables.named c.args.tables.now in
+    let i = c.in-OverlapJoin in
+    let inputs = c.in_ok-inputs-in-OverlapJoin in
+    let width = c.in_ok-width-in-OverlapJoin.width in
+    let wide : (d : ℤ) → IsRefDay d → All (λ x. length x ≡ width) (rows_on (rel_of inputs.inputs.left) d) = λ d day.
+    subst (All (λ x. length x ≡ width)) (sym (inputs.ensures.law_left d day))
+    (wide_OverlapJoin named d c.args.plan.now i.left i.right c.get.result.now i.pair i.rest width i.is c.requires.sound c.requires.tables c.get.ensures c.in_ok-width-in-OverlapJoin.ensures) in
+    IfOk-weaker c.overlap_joined.result _ _
+    (λ a law d day. of_two named d (λ l r. images (image d c.args.items.now) (matches (λ x y. do_overlap x y i.pair && all_hold d i.rest (x ++ y)) l r))
+    (images (image d c.args.items.now) (day_rows named d c.args.plan.now)) i.left i.right (rows_on (rel_of a) d) (rel_of inputs.inputs.left) (rel_of inputs.inputs.right)
+    (ap (λ rows. images (image d c.args.items.now) rows) (ap (day_rows named d) i.is ∙ fold-OverlapJoin (node_rows d (rows_at named d)) i.left i.right i.pair i.rest))
+    (law d day (wide d day)) (inputs.ensures.law_left d day) (inputs.ensures.law_right d day)) c.overlap_joined.ensures.law
+
+pub images_of-returns-in_ok-input-in_default-clause-law : goal.images_of-returns-in_ok-input-in_default-clause-law
+images_of-returns-in_ok-input-in_default-clause-law g t c =
+    IfOk-weaker c.projected.result _ _
+    (λ a law d day. law d day ∙ ap (λ rows. images (image d c.args.items.now) rows) (c.in_ok-input-in_default.ensures.law d day)) c.projected.ensures.law

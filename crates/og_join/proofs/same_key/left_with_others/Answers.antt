@@ -6,9 +6,9 @@ use Rattle.og_join.proofs.same_key.left_with_others.Goals as goal
 
 pub rows-preserved : goal.rows-preserved
 rows-preserved g c = record {
-  rows = λ meets d r.
-      joined_same_key-more g.R.Instant.meaning d g.met.Q.Key.Ord.total g.R.Glue.glued meets (g.Q.Keys.left_of c.args.keys.now) (g.Q.Keys.right_of c.args.keys.now) c.args.left.now c.args.others.now
-      c.rows.rows.items _ c.rows.i _ c.in_ok-key.key (search rules) c.in_ok-push.ensures.items c.row-row.ensures c.days-days.ensures c.of_key-others.ensures r (c.in_ok-key.ensures d r) c.requires.keys (c.rows.invariant.rows meets d r);
+  rows = λ put meets d r.
+      joined_same_key-more g.R.Instant.meaning d g.met.Q.Key.Ord.total put meets (g.Q.Keys.left_of c.args.keys.now) (g.Q.Keys.right_of c.args.keys.now) c.args.left.now c.args.others.now
+      c.rows.rows.items _ c.rows.i _ c.in_ok-key.key (search rules) c.in_ok-push.ensures.items c.row-row.ensures c.days-days.ensures c.of_key-others.ensures r (c.in_ok-key.ensures d r) c.requires.keys (c.rows.invariant.rows put meets d r);
   near = λ holds told.
       AreNear-more g.R.Glue.glued g.R.Instant.meaning holds (g.S.Spans.left_of c.args.spans.now) (g.S.Spans.right_of c.args.spans.now) c.args.left.now c.args.others.now
       c.rows.rows.items _ c.rows.i _ _ (search rules) c.in_ok-push.ensures.items c.row-row.ensures c.of_key-others.ensures c.requires.spans told (c.rows.invariant.near holds told);

@@ -10,8 +10,8 @@ use Rattle.og_join.proofs.same_key.left_with_others.Given as goal
 
 abbrev pub invariant-rows : goal.invariant-rows
 invariant-rows g l = record {
-  rows : (meets : g.row.R-Fixed.Denot → g.row.R-Fixed.Denot → Bool) (d : ℤ) → IsRefDay d → joined_same_key g.R.Instant.meaning g.R.Glue.glued meets l.rows.items d
-      ≡ joined g.R.Glue.glued (λ x y. eq_by_cmp g.Q.Key.Ord.cmp (g.Q.Keys.left_of l.keys x) (g.Q.Keys.right_of l.keys y) && meets x y)
+  rows : (put : g.row.R-Fixed.Denot → g.row.R-Fixed.Denot → g.row.R-Fixed.Denot) (meets : g.row.R-Fixed.Denot → g.row.R-Fixed.Denot → Bool) (d : ℤ) → IsRefDay d → joined_same_key g.R.Instant.meaning put meets l.rows.items d
+      ≡ joined put (λ x y. eq_by_cmp g.Q.Key.Ord.cmp (g.Q.Keys.left_of l.keys x) (g.Q.Keys.right_of l.keys y) && meets x y)
       (present g.R.Instant.meaning (take l.i l.left) d) (present g.R.Instant.meaning (lent l.others) d);
   near : (holds : ℤ → g.row.R-Fixed.Denot → Bool) → AreTold g.R.Glue.glued g.R.Instant.meaning holds (g.S.Spans.left_of l.spans) (g.S.Spans.right_of l.spans) l.left (lent l.others) → All (AreNear g.R.Glue.glued g.R.Instant.meaning holds (g.S.Spans.left_of l.spans)) l.rows.items;
   most : All (λ s. length s.others.now ≤ length l.others) l.rows.items;

@@ -1,6 +1,6 @@
 use Rattle.std.proofs.Common.{rules}
 use Rattle.og_ops.proofs.DayLemmas.{some_day_of, hit_truth}
-use Rattle.og_ops.proofs.pair.test_pair.Goals as goal
+use Rattle.og_ops.proofs.pair.test_pair_with.Goals as goal
 
 pub returns-clause-some_day : goal.returns-clause-some_day
 returns-clause-some_day g c =
