@@ -1,4 +1,4 @@
-pub mod CopyLemmas
+pub mod ChangeLemmas
 pub mod EffectLemmas
 pub mod EntryLemmas
 pub mod FitLemmas

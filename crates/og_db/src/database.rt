@@ -1,9 +1,9 @@
 //! The names of a run and what they hold.
-ghost use Rattle.std.specs.Prelude.{◌≡◌, ◌++◌, ◌+◌, ◌<◌, ◌≤◌, ℕ, ℤ, List, [], ◌∷◌, Some, IfOk, OnOk, OnErr, length, map, slice_index_or, take};
+ghost use Rattle.std.specs.Prelude.{◌≡◌, ◌++◌, ◌<◌, ◌≤◌, ℕ, ℤ, List, [], ◌∷◌, Some, IfOk, OnOk, OnErr, length, map, slice_index_or};
 ghost use Rattle.std.specs.List.{All, IsDistinct};
 ghost use Rattle.std.specs.Str.{bytes_eq};
 ghost use Rattle.og_base.specs.Calendar.{IsRefDay};
-ghost use Rattle.og_rel.specs.Relations.{relation_at};
+ghost use Rattle.og_rel.specs.Relations.{instead, passing, relation_at};
 ghost use Rattle.og_value.specs.Order.{row_order};
 ghost use Rattle.og_value.specs.Values.{row_at};
 ghost use Rattle.og_value.specs.declared.kind.What.TheVariants as what;
@@ -13,7 +13,7 @@ ghost use Rattle.og_query.specs.Queries.{ordinary_query};
 ghost use Rattle.og_query.specs.Sizes.{query_size};
 ghost use Rattle.og_query.specs.declared.query.Query.{Query};
 ghost use Rattle.og_query.specs.declared.typed.Typed.TheVariants as t;
-ghost use Rattle.og_db.specs.Fits.{KeepsKinds};
+ghost use Rattle.og_expr.specs.Bounds.{may_hold};
 ghost use Rattle.og_db.specs.Held.{Held, known_of, rows_of, changed_at, put_at, without};
 ghost use Rattle.og_db.specs.Insertion.{on_all_days};
 ghost use Rattle.og_db.specs.Live.{kept_at};
@@ -21,16 +21,16 @@ ghost use Rattle.og_db.specs.Runs.{AreWithin, is_stored, sizes_at, stored};
 ghost use Rattle.og_db.specs.Statements.{named_rows, named_sizes, names_after, name_sizes_after};
 ghost use Rattle.og_db.specs.Database.{Relation, HaveKinds, IsTableOf, IsLiveOf, AreKept, names_at};
 
-use crate::assignments::Assignments;
+use crate::changes::{changed_of, left_of};
 use crate::holding::Holding;
 use crate::insertion::on_all_days;
 use crate::sought::Sought;
+use crate::touched::Touched;
 use indexmap::IndexMap;
 use og_base::NoMemory;
-use og_expr::CondDays;
-use og_ops::{Restrict, Split, UnaryOp};
+use og_expr::bounds_hold;
 use og_query::{Assign, Cond};
-use og_rel::{Rel, Tables};
+use og_rel::{Rel, RowTest, Tables, replace_both};
 use og_value::{Catalog, Name, Row, Schema, What};
 use std::alloc::Global;
 use std::marker::Model;
@@ -63,33 +63,6 @@ impl Db {
         Db {
             names: IndexMap::new(alloc),
         }
-    }
-
-    /// The same names once more, with the same relations. Refused only for want of memory.
-    pub fn copy(&self, alloc: Global) -> Result<Db, NoMemory>
-        ensures { IfOk result (λ db. db ≡ self.now) }
-    {
-        let mut db = Db::new(alloc);
-        'names: for i in 0..self.names.len() {
-            self.copy_name(i, &mut db)?;
-        }
-        Ok(db)
-    }
-
-    // Adds the name at that place to a copy of those before it.
-    fn copy_name(&self, i: usize, db: &mut Db) -> Result<(), NoMemory>
-        requires within { i < length self.now }
-        requires before { db.old ≡ take i self.now }
-        ensures { OnOk result (db.new ≡ take (i + 1) self.now) }
-    {
-        self.names_differ();
-        self.rows_fit();
-        let Some((name, holding)) = self.names.get_index(i) else {
-            unreachable!();
-        };
-        let rel = holding.rel.copy()?;
-        let schema = holding.schema.copy()?;
-        db.enter(name.copy()?, holding.what, schema, rel)
     }
 
     /// Adds a table without rows, as the last name. Refused only for want of memory, and then nothing
@@ -196,75 +169,59 @@ impl Db {
         }
     }
 
-    /// The relation that `insert` leaves under the name: that of the table with the rows behind its own, each
-    /// present on all days. Refused only for want of memory.
-    pub fn inserted(&self, name: &Name, rows: Vec<Row>) -> Result<Rel<Row>, NoMemory>
-        requires table { (columns : List Column) × IsTableOf columns self.now name.now × All (IsFitRow columns) rows.items }
-        ensures added { IfOk result (λ rel. put_at name.now rel self.now ≡ changed_at name.now (λ old. old ++ on_all_days rows.items) self.now) }
-        ensures fits { IfOk result (λ rel. (columns : List Column) → IsTableOf columns self.now name.now → HaveKinds columns rel) }
-        ensures law { IfOk result (λ rel. (d : ℤ) → IsRefDay d →
-            names_at d (put_at name.now rel self.now) ≡ names_after d (names_at d self.now) (t.Insert name.now rows.items)) }
-        ensures size { IfOk result (λ rel. AreWithin (sizes_at (put_at name.now rel self.now)) (name_sizes_after (sizes_at self.now) (t.Insert name.now rows.items))) }
-    {
-        self.rows_fit();
-        self.names_differ();
-        let added = on_all_days(*self.names.allocator(), rows)?;
-        let Some(rel) = self.rel(name.bytes()) else {
-            unreachable!();
-        };
-        let mut all = rel.copy()?;
-        all.append(added)?;
-        Ok(all)
-    }
-
-    /// The relation that `delete` leaves under the name: the rows of the table, each on the days on which the
-    /// condition does not hold of it. Refused only for want of memory.
-    pub fn deleted(&self, name: &Name, cond: &Cond) -> Result<Rel<Row>, NoMemory>
+    /// The rows of a table that a change may touch, once more. Refused only for want of memory.
+    pub fn touched(&self, name: &Name, test: &Touched<'_>) -> Result<Rel<Row>, NoMemory>
         requires table { (columns : List Column) × IsTableOf columns self.now name.now }
-        ensures fits { IfOk result (λ rel. (columns : List Column) → IsTableOf columns self.now name.now → HaveKinds columns rel) }
-        ensures law { IfOk result (λ rel. (d : ℤ) → IsRefDay d →
-            names_at d (put_at name.now rel self.now) ≡ names_after d (names_at d self.now) (t.Delete name.now cond.now)) }
-        ensures size { IfOk result (λ rel. AreWithin (sizes_at (put_at name.now rel self.now)) (name_sizes_after (sizes_at self.now) (t.Delete name.now cond.now))) }
-    {
-        let left = Restrict {
-            cond: CondDays { cond },
-        };
-        self.made(name, &left)
-    }
-
-    /// The relation that `update` leaves under the name: the rows of the table, with the assigned ones in the
-    /// place of those of which the condition holds, on the days on which it does. Refused only for want of
-    /// memory.
-    pub fn updated(&self, name: &Name, sets: &[Assign], cond: &Cond) -> Result<Rel<Row>, NoMemory>
-        requires table { (columns : List Column) × IsTableOf columns self.now name.now × All (IsFitAssign columns) sets.now }
-        ensures fits { IfOk result (λ rel. (columns : List Column) → IsTableOf columns self.now name.now → HaveKinds columns rel) }
-        ensures law { IfOk result (λ rel. (d : ℤ) → IsRefDay d →
-            names_at d (put_at name.now rel self.now) ≡ names_after d (names_at d self.now) (t.Update name.now sets.now cond.now)) }
-        ensures size { IfOk result (λ rel. AreWithin (sizes_at (put_at name.now rel self.now)) (name_sizes_after (sizes_at self.now) (t.Update name.now sets.now cond.now))) }
-    {
-        let changed = Split {
-            cond: CondDays { cond },
-            items: Assignments { sets },
-        };
-        self.made(name, &changed)
-    }
-
-    // What the operator makes of a table's relation.
-    fn made<O: UnaryOp<Row>>(&self, name: &Name, op: &O) -> Result<Rel<Row>, NoMemory>
-        requires table { (columns : List Column) × IsTableOf columns self.now name.now × KeepsKinds columns (O.plain op.now) }
-        ensures fits { IfOk result (λ rel. (columns : List Column) → IsTableOf columns self.now name.now → HaveKinds columns rel) }
-        ensures law { IfOk result (λ rel. (d : ℤ) → IsRefDay d →
-            names_at d (put_at name.now rel self.now) ≡ changed_at name.now (O.plain op.now d) (names_at d self.now)) }
-        ensures size { IfOk result (λ rel. AreWithin (sizes_at (put_at name.now rel self.now)) (changed_at name.now (O.most op.now) (sizes_at self.now))) }
+        ensures rows { IfOk result (λ rows. (rel : Relation) → rows_of self.now name.now ≡ Some rel →
+            rows ≡ passing (λ row. may_hold row test.now) rel) }
+        ensures fits { IfOk result (λ rows. (columns : List Column) → IsTableOf columns self.now name.now → HaveKinds columns rows) }
     {
         self.rows_fit();
-        self.names_differ();
         let Some(rel) = self.rel(name.bytes()) else {
             unreachable!();
         };
-        let made = op.apply(*self.names.allocator(), rel)?;
-        made.some_days();
-        Ok(made)
+        rel.passing(test)
+    }
+
+    /// Puts `more` in the place of the rows of a table that pass the test. Refused only for want of memory, and
+    /// then nothing has changed.
+    pub fn replace<T: RowTest<Row>>(
+        &mut self,
+        name: &Name,
+        test: &T,
+        more: Rel<Row>,
+    ) -> Result<(), NoMemory>
+        requires table { (columns : List Column) × IsTableOf columns self.old name.now × HaveKinds columns more }
+        ensures replaced { OnOk result (self.new ≡ changed_at name.now (instead (T.passes test.now) more) self.old) }
+        ensures refused { OnErr result (self.new ≡ self.old) }
+    {
+        let Some(at) = self.names.get_index_of(name) else {
+            unreachable!();
+        };
+        self.names[at].rel.replace(test, more)
+    }
+
+    /// The same, and in another relation with its own test and rows: in both or in neither. Refused only for
+    /// want of memory, and then nothing has changed.
+    pub fn replace_with<T: RowTest<Row>, U: RowTest<Row>>(
+        &mut self,
+        name: &Name,
+        test: &T,
+        more: Rel<Row>,
+        other: &mut Rel<Row>,
+        other_test: &U,
+        other_more: Rel<Row>,
+    ) -> Result<(), NoMemory>
+        requires table { (columns : List Column) × IsTableOf columns self.old name.now × HaveKinds columns more }
+        ensures replaced { OnOk result (self.new ≡ changed_at name.now (instead (T.passes test.now) more) self.old) }
+        ensures other { OnOk result (other.new ≡ instead (U.passes other_test.now) other_more other.old) }
+        ensures refused { OnErr result ((self.new ≡ self.old) × (other.new ≡ other.old)) }
+    {
+        let Some(at) = self.names.get_index_of(name) else {
+            unreachable!();
+        };
+        let rel = &mut self.names[at].rel;
+        replace_both(rel, test, more, other, other_test, other_more)
     }
 
     /// Adds the rows to a table, each present on all days. Refused only for want of memory, and then
@@ -294,9 +251,14 @@ impl Db {
         ensures size { OnOk result (AreWithin (sizes_at self.new) (name_sizes_after (sizes_at self.old) (t.Delete name.now cond.now))) }
         ensures refused { OnErr result (self.new ≡ self.old) }
     {
-        let left = self.deleted(name, cond)?;
-        self.put(name, left);
-        Ok(())
+        bounds_hold();
+        self.names_differ();
+        self.rows_fit();
+        let alloc = *self.names.allocator();
+        let test = Touched::new(alloc, cond);
+        let rows = self.touched(name, &test)?;
+        let left = left_of(alloc, &rows, cond)?;
+        self.replace(name, &test, left)
     }
 
     /// Puts the assigned rows in the place of the rows of a table of which the condition holds, on the
@@ -310,9 +272,14 @@ impl Db {
         ensures size { OnOk result (AreWithin (sizes_at self.new) (name_sizes_after (sizes_at self.old) (t.Update name.now sets.now cond.now))) }
         ensures refused { OnErr result (self.new ≡ self.old) }
     {
-        let changed = self.updated(name, sets, cond)?;
-        self.put(name, changed);
-        Ok(())
+        bounds_hold();
+        self.names_differ();
+        self.rows_fit();
+        let alloc = *self.names.allocator();
+        let test = Touched::new(alloc, cond);
+        let rows = self.touched(name, &test)?;
+        let changed = changed_of(alloc, &rows, sets, cond)?;
+        self.replace(name, &test, changed)
     }
 
     /// No two names are the same.

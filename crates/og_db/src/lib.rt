@@ -4,8 +4,11 @@
 //! whose rows fit them. `create`, `insert`, `delete`, `update`, `keep` and `drop_name` make of it,
 //! where names and kinds fit, on every day what the ordinary statement makes of the rows of that day,
 //! with no more rows than its size (specs/Statements.antt); where they are refused nothing has
-//! changed. `inserted`, `deleted` and `updated` make the relation that such a statement leaves under the
-//! name of a table, and `put` puts it in place without memory. `keep` is given its rows: `Db` asks no
+//! changed. `delete` and `update` copy of a table only the rows that their condition may touch (`Touched`, a
+//! test of single rows that takes no memory); what is left of these, or what assignments make of them, then
+//! stands in their place behind the other rows. `touched`, `left_of`, `gone_of`, `changed_of`, `assigned_of`,
+//! `replace` and `replace_with` are the steps alone, for one that changes another relation with the table, and
+//! `put` puts a whole relation in its place without memory. `keep` is given its rows: `Db` asks no
 //! query. So a live result has a name here and no rows:
 //! `live` adds it, `settle` makes it a kept result, and `drop_live` takes all of them out; what becomes of
 //! live results at a statement stands in specs/Live.antt. What statements on files make of a database and
@@ -16,16 +19,20 @@
 #![tactic(auto)]
 
 mod assignments;
+mod changes;
 mod database;
 mod holding;
 mod insertion;
 mod laws;
 mod sought;
+mod touched;
 
 pub use assignments::Assignments;
+pub use changes::{assigned_of, changed_of, gone_of, left_of};
 pub use database::Db;
 pub use insertion::on_all_days;
 pub use laws::{
     fitting_rows, found_names, known_names, no_statements, one_file_more, one_statement_more,
 };
 pub use sought::Sought;
+pub use touched::Touched;
