@@ -2,10 +2,10 @@
 use Rattle.std.proofs.Common.{◌≡◌, ◌++◌, ◌+◌, ◌<◌, ◌&&◌, ℕ, ℤ, zero, suc, Bool, true, false, List, [], ◌∷◌, Option, Some, None, length, filter, map, get_or, slice_get, slice_index_or, take, refl, sym, ap, ap₂, ◌∙◌, subst, arith}
 use Rattle.std.specs.List.{All, AllByRecursion}
 use Rattle.std.specs.Option.{IfSome, option_map}
-use Rattle.std.proofs.lemmas.List.{append_assoc, append-nil, length-append, length-map, map-append}
-use Rattle.std.proofs.lemmas.List.Elements.{All-filter, All-get_or, All-weaker, recursion_from_All}
+use Rattle.std.proofs.lemmas.List.{append_assoc, append-nil, length-map, map-append, take_more}
+use Rattle.std.proofs.lemmas.List.Elements.{All-filter, All-weaker, recursion_from_All}
 use Rattle.std.proofs.lemmas.List.Sums.{sum_by-cons}
-use Rattle.std.proofs.lemmas.Option.{get_or_from_slice_get, same_Some, slice_get-get_or, slice_get_within}
+use Rattle.std.proofs.lemmas.Option.{same_Some, slice_get-get_or}
 use Rattle.og_value.specs.Order.{row_order}
 use Rattle.og_value.specs.Values.{row_at}
 use Rattle.og_value.specs.declared.schema.Column.{Column}
@@ -25,7 +25,7 @@ use Rattle.og_plan.proofs.MeaningHomes.{columns}
 use Rattle.og_exec.specs.Tables.{Relation, Relations, rows_at, rows_or_none}
 use Rattle.og_db.specs.Database.{HaveKinds}
 use Rattle.og_db.specs.Fits.{IsFitFixed}
-use Rattle.og_view.specs.Again.{AreParts, IsHanded, IsPart, or_table, part_at, part_rels, passing_rows, width_of}
+use Rattle.og_view.specs.Again.{AreParts, IsHanded, IsPart, part_at, part_rels, passing_rows, rel_of, width_of}
 use Rattle.og_view.specs.Bases.{AreHeld}
 use Rattle.og_view.specs.Placed.{columns_at, letters, place_schemas, placed_core, placed_query}
 use Rattle.og_view.specs.Rows.{rows_over}
@@ -34,7 +34,7 @@ use Rattle.og_view.specs.declared.again.Part.{Part}
 use Rattle.og_view.proofs.AnswerLemmas.{named_fit}
 use Rattle.og_view.proofs.GrownLemmas.{core_rows-over}
 use Rattle.og_view.proofs.NarrowedLemmas.{HaveWidths, rows_over-narrowed}
-use Rattle.og_view.proofs.PlacedLemmas.{by_place, length-letters, nothing_and, placed-by_place}
+use Rattle.og_view.proofs.PlacedLemmas.{by_place, length-letters, named_at, nothing_and, placed-by_place}
 use Rattle.og_view.proofs.SieveLemmas.{passes-one, rows_on-sifted, sifted-none}
 
 -- what follows for a value, if there is one
@@ -112,18 +112,18 @@ module _ (d : ℤ) (core : Core) (tests : List Test) where
     abbrev table_rows : From1 → List Fixed
     table_rows table = rows_at named d table.name
 
-    -- the rows of the parts of tables, and of the others
+    -- the rows of the parts of tables
     abbrev part_rows : List Part → List From1 → List (List Fixed)
-    part_rows [] tables = map table_rows tables
-    part_rows (part ∷ parts) [] = []
     part_rows (part ∷ parts) (table ∷ tables) = filter (passes part.sieve) (table_rows table) ∷ part_rows parts tables
+    part_rows parts tables = []
 
     -- over these the core has the same rows that pass
     same_passing : (before : List From1) (front : List (List Fixed)) → HaveWidths (widths before) front → (tables : List From1)
         → AllByRecursion (λ table. All (λ row. length row ≡ length table.schema) (table_rows table)) tables → (parts : List Part) → AreParts named tests core.items before tables parts
         → filter (passes tests) (rows_over d core (front ++ part_rows parts tables)) ≡ filter (passes tests) (rows_over d core (front ++ map table_rows tables))
-    same_passing before front wide tables fit [] are = refl
+    same_passing before front wide [] fit [] are = refl
     same_passing before front wide [] fit (part ∷ parts) are = absurd are
+    same_passing before front wide (table ∷ tables) fit [] are = absurd are
     same_passing before front wide (table ∷ tables) fit (part ∷ parts) are =
         let rows = table_rows table in
         all_tests before front wide table (part_rows parts tables) part.sieve rows fit.0 (recursion_from_All (IsHanded tests core.items before table) part.sieve are.0.1)
@@ -133,11 +133,6 @@ module _ (d : ℤ) (core : Core) (tests : List Test) where
         tables fit.1 parts are.1
         ∙ ap (λ lists. filter (passes tests) (rows_over d core lists)) (append_assoc front (rows ∷ []) (map table_rows tables))
 
-    -- what is read at places without parts
-    reads_none : (tables : List From1) → by_place (λ k. rows_or_none (part_at named (slice_get tables k) None) d) tables ≡ map table_rows tables
-    reads_none [] = refl
-    reads_none (table ∷ tables) = ap (λ rest. table_rows table ∷ rest) (reads_none tables)
-
     -- the rows of a part
     read_part : (sieve : List Test) (o : Option Relation) → rows_or_none (option_map (sifted sieve) o) d ≡ filter (passes sieve) (rows_or_none o d)
     read_part sieve None = refl
@@ -145,20 +140,21 @@ module _ (d : ℤ) (core : Core) (tests : List Test) where
 
     -- what is read at each place
     reads_parts : (before tables : List From1) (parts : List Part) → AreParts named tests core.items before tables parts
-        → by_place (λ k. rows_or_none (part_at named (slice_get tables k) (slice_get parts k)) d) tables ≡ part_rows parts tables
-    reads_parts before tables [] are = reads_none tables
+        → by_place (λ k. rows_or_none (part_at (slice_get parts k)) d) tables ≡ part_rows parts tables
+    reads_parts before [] [] are = refl
     reads_parts before [] (part ∷ parts) are = absurd are
+    reads_parts before (table ∷ tables) [] are = absurd are
     reads_parts before (table ∷ tables) (part ∷ parts) are =
         ap₂ (λ x xs. x ∷ xs) (ap (λ o. rows_or_none o d) are.0.0 ∙ read_part part.sieve (named table.name)) (reads_parts (before ++ table ∷ []) tables parts are.1)
 
     module _ (parts : List Part) (are : AreParts named tests core.items [] core.tables parts) where
       -- the query of the core over names by place has the rows over those of the parts
-      rows_of_parts : ordinary_query d (rows_at (part_rels named parts core.tables) d) (placed_query core) ≡ rows_over d core (part_rows parts core.tables)
+      rows_of_parts : ordinary_query d (rows_at (part_rels parts) d) (placed_query core) ≡ rows_over d core (part_rows parts core.tables)
       rows_of_parts =
-          core_rows-over d (placed_core core) (rows_at (part_rels named parts core.tables) d) refl
+          core_rows-over d (placed_core core) (rows_at (part_rels parts) d) refl
           ∙ ap (rows_over d core)
-          (placed-by_place (λ name. rows_at (part_rels named parts core.tables) d name) 0 core.tables
-          ∙ (λ i. by_place (λ k. rows_or_none (part_at named (slice_get core.tables (number k i)) (slice_get parts (number k i))) d) core.tables)
+          (placed-by_place (λ name. rows_at (part_rels parts) d name) 0 core.tables
+          ∙ (λ i. by_place (λ k. rows_or_none (part_at (slice_get parts (number k i))) d) core.tables)
           ∙ reads_parts [] core.tables parts are)
         where
           number : (k : ℕ) → length (letters (0 + k)) ≡ k
@@ -166,7 +162,7 @@ module _ (d : ℤ) (core : Core) (tests : List Test) where
 
       -- of which those that pass are the rows of the core that do
       pub passing_parts : AllByRecursion (λ table. All (λ row. length row ≡ length table.schema) (table_rows table)) core.tables
-          → filter (passes tests) (ordinary_query d (rows_at (part_rels named parts core.tables) d) (placed_query core)) ≡ passing_rows d named tests core
+          → filter (passes tests) (ordinary_query d (rows_at (part_rels parts) d) (placed_query core)) ≡ passing_rows d named tests core
       passing_parts fit = ap (filter (passes tests)) rows_of_parts ∙ same_passing [] [] tt core.tables fit parts are
 
 -- without tests a relation, if there is one, is as it was
@@ -190,62 +186,48 @@ widths_fit schemas named held on_a_day d tables fits =
 
 module _ (named : Relations) (tests : List Test) (items : List Expr) where
   -- one part more
-  AreParts-push : (before tables : List From1) (parts : List Part) (part : Part) (table : From1) → AreParts named tests items before tables parts → slice_get tables (length parts) ≡ Some table
-      → IsPart named tests items (before ++ take (length parts) tables) table part → AreParts named tests items before tables (parts ++ part ∷ [])
-  AreParts-push before [] [] part table are there is = cc there
-  AreParts-push before (one ∷ tables) [] part table are there is =
-      (subst (λ one. IsPart named tests items before one part) (sym (same_Some one table there)) (subst (λ before. IsPart named tests items before table part) (append-nil before) is), tt)
-  AreParts-push before [] (other ∷ parts) part table are there is = absurd are
-  AreParts-push before (one ∷ tables) (other ∷ parts) part table are there is = (
+  AreParts-push : (before tables : List From1) (parts : List Part) (part : Part) (table : From1) → AreParts named tests items before tables parts
+      → IsPart named tests items (before ++ tables) table part → AreParts named tests items before (tables ++ table ∷ []) (parts ++ part ∷ [])
+  AreParts-push before [] [] part table are is = (subst (λ before. IsPart named tests items before table part) (append-nil before) is, tt)
+  AreParts-push before [] (other ∷ parts) part table are is = absurd are
+  AreParts-push before (one ∷ tables) [] part table are is = absurd are
+  AreParts-push before (one ∷ tables) (other ∷ parts) part table are is = (
     are.0,
-    AreParts-push (before ++ one ∷ []) tables parts part table are.1 there
-        (subst (λ before. IsPart named tests items before table part) (sym (append_assoc before (one ∷ []) (take (length parts) tables))) is),
+    AreParts-push (before ++ one ∷ []) tables parts part table are.1 (subst (λ before. IsPart named tests items before table part) (sym (append_assoc before (one ∷ []) tables)) is),
   )
 
   -- the step of a loop over the places, which makes one part more
   pub parts_more : (tables : List From1) (parts more : List Part) (part : Part) (k : ℕ) → more ≡ parts ++ part ∷ [] → k < length tables
-      → ((table : From1) → slice_get tables k ≡ Some table → IsPart named tests items (take k tables) table part) → (length parts ≡ k) × AreParts named tests items [] tables parts
-      → (length more ≡ k + 1) × AreParts named tests items [] tables more
+      → ((table : From1) → slice_get tables k ≡ Some table → IsPart named tests items (take k tables) table part) → AreParts named tests items [] (take k tables) parts
+      → AreParts named tests items [] (take (k + 1) tables) more
   parts_more tables parts more part k is within of before =
-      let there = slice_get-get_or tables k (record { name = []; schema = [] }) within in
-      let table = get_or tables k (record { name = []; schema = [] }) in (
-        omega (arith, ap length is, length-append parts (part ∷ []), before.0),
-        subst (AreParts named tests items [] tables) (sym is)
-            (AreParts-push [] tables parts part table before.1 (ap (slice_get tables) before.0 ∙ there) (subst (λ n. IsPart named tests items (take n tables) table part) (sym before.0) (of table there))),
-      )
+      let none : From1 = record { name = []; schema = [] } in
+      let table = get_or tables k none in
+      subst (λ tables. AreParts named tests items [] tables more) (sym (take_more tables k none within))
+      (subst (AreParts named tests items [] (take k tables ++ table ∷ [])) (sym is)
+      (AreParts-push [] (take k tables) parts part table before (of table (slice_get-get_or tables k none within))))
 
-  -- what a part has
-  part_has : (before tables : List From1) (parts : List Part) (k : ℕ) (table : From1) (part : Part) → AreParts named tests items before tables parts
-      → slice_get tables k ≡ Some table → slice_get parts k ≡ Some part → or_table part.rows (named table.name) ≡ option_map (sifted part.sieve) (named table.name)
-  part_has before tables [] k table part are there partly = cc partly
-  part_has before [] (other ∷ parts) k table part are there partly = absurd are
-  part_has before (one ∷ tables) (other ∷ parts) zero table part are there partly =
-      subst (λ part. or_table part.rows (named table.name) ≡ option_map (sifted part.sieve) (named table.name)) (same_Some other part partly)
-      (subst (λ table. or_table other.rows (named table.name) ≡ option_map (sifted other.sieve) (named table.name)) (same_Some one table there) are.0.0)
-  part_has before (one ∷ tables) (other ∷ parts) (suc k) table part are there partly = part_has (before ++ one ∷ []) tables parts k table part are.1 there partly
+  -- the part of a table
+  part_there : (before tables : List From1) (parts : List Part) (k : ℕ) (table : From1) → AreParts named tests items before tables parts → slice_get tables k ≡ Some table
+      → (part : Part) × (slice_get parts k ≡ Some part) × (option_map rel_of part.rows ≡ option_map (sifted part.sieve) (named table.name))
+  part_there before [] parts k table are there = cc there
+  part_there before (one ∷ tables) [] k table are there = absurd are
+  part_there before (one ∷ tables) (part ∷ parts) zero table are there =
+      (part, refl, subst (λ table. option_map rel_of part.rows ≡ option_map (sifted part.sieve) (named table.name)) (same_Some one table there) are.0.0)
+  part_there before (one ∷ tables) (part ∷ parts) (suc k) table are there = part_there (before ++ one ∷ []) tables parts k table are.1 there
 
   module _ (schemas : Schemas) (held : AreHeld schemas named) (tables : List From1) (fits : All (IsAsNamed schemas) tables) (parts : List Part) (are : AreParts named tests items [] tables parts) where
-    -- a table is known as it is named
-    named_at : (k : ℕ) (table : From1) → slice_get tables k ≡ Some table → IsAsNamed schemas table
-    named_at k table is = subst (IsAsNamed schemas) (get_or_from_slice_get tables k table table is) (All-get_or (IsAsNamed schemas) tables k table (slice_get_within tables k table is) fits)
-
-    -- its part has a relation, or else it has one itself
-    there_at : (k : ℕ) (table : From1) (o : Option Part) → slice_get tables k ≡ Some table → slice_get parts k ≡ o
-        → (rel : Relation) × (part_at named (Some table) o ≡ Some rel) × All (λ p. IsFitRow table.schema p.0) rel
-    there_at k table None there partly = held table.name table.schema (named_at k table there)
-    there_at k table (Some part) there partly =
-        let all = held table.name table.schema (named_at k table there) in
-        (sifted part.sieve all.0, part_has [] tables parts k table part are there partly ∙ ap (option_map (sifted part.sieve)) all.1, All-filter _ (λ p. IsFitRow table.schema p.0) all.0 all.2)
-
-    -- as each place
+    -- at a place the part of the table has a relation
     at_place : (k : ℕ) (columns : List Column) (o : Option From1) → slice_get tables k ≡ o → columns_at o ≡ Some columns
-        → (rel : Relation) × (part_at named o (slice_get parts k) ≡ Some rel) × All (λ p. IsFitRow columns p.0) rel
+        → (rel : Relation) × (part_at (slice_get parts k) ≡ Some rel) × All (λ p. IsFitRow columns p.0) rel
     at_place k columns None there as_known = cc as_known
     at_place k columns (Some table) there as_known =
-        subst (λ columns. (rel : Relation) × (part_at named (Some table) (slice_get parts k) ≡ Some rel) × All (λ p. IsFitRow columns p.0) rel) (same_Some table.schema columns as_known)
-        (there_at k table (slice_get parts k) there refl)
+        let part = part_there [] tables parts k table are there in
+        let all = held table.name table.schema (named_at schemas tables fits k table there) in
+        subst (λ columns. (rel : Relation) × (part_at (slice_get parts k) ≡ Some rel) × All (λ p. IsFitRow columns p.0) rel) (same_Some table.schema columns as_known)
+        (sifted part.0.sieve all.0, ap part_at part.1 ∙ part.2 ∙ ap (option_map (sifted part.0.sieve)) all.1, All-filter _ (λ p. IsFitRow table.schema p.0) all.0 all.2)
 
     -- each place has its relation
-    pub parts_held : AreHeld (place_schemas tables) (part_rels named parts tables)
+    pub parts_held : AreHeld (place_schemas tables) (part_rels parts)
     parts_held [] columns as_known = cc as_known
     parts_held (letter ∷ name) columns as_known = at_place (length name) columns (slice_get tables (length name)) refl as_known

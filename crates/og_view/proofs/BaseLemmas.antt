@@ -14,7 +14,7 @@ use Rattle.og_query.specs.declared.query.Core.{Core}
 use Rattle.og_query.specs.declared.query.From1.{From1}
 use Rattle.og_query.specs.declared.query.Query.{Query}
 use Rattle.og_exec.specs.Tables.{Relations}
-use Rattle.og_db.specs.Database.{Relation}
+use Rattle.og_db.specs.Database.{IsTableOf, Relation}
 use Rattle.og_db.specs.Held.{Held, described, found, known_of, rows_of}
 use Rattle.og_view.specs.Bases.{AreCopied, AreHeld, AreMore}
 use Rattle.og_view.specs.Views.{IsLiveQuery}
@@ -25,6 +25,14 @@ table_known (Some (what.Table, others)) columns e = ap (λ cs. Some (what.Table,
 table_known (Some (what.Kept, others)) columns e = cc
 table_known (Some (what.Live, others)) columns e = cc
 table_known None columns e = cc
+
+-- a table has a relation
+pub table_there : (bases : List (Held Relation)) (name : List ℕ) (columns : List Column) → IsTableOf columns bases name → (rel : Relation) × (rows_of bases name ≡ Some rel)
+table_there bases name columns is = at (found bases name) refl is
+  where
+    at : (o : Option (Held Relation)) → found bases name ≡ o → option_map described o ≡ Some (what.Table, columns) → (rel : Relation) × (rows_of bases name ≡ Some rel)
+    at (Some h) here is = (h.rows, ap (option_map (λ h. h.rows)) here)
+    at None here is = cc is
 
 -- tables have their relations where all names have
 pub tables_held : (known : Known) (named : Relations) → AreHeld (schemas_of known) named → AreHeld (tables_of known) named

@@ -1,12 +1,13 @@
 -- Cores over names by place: what their places have, and what they have more when a name gets new rows.
-use Rattle.std.proofs.Common.{◌≡◌, ◌≤◌, ◌++◌, ◌+◌, ℕ, ℤ, zero, suc, nat_lt, Bool, true, false, List, [], ◌∷◌, Option, Some, None, length, map, slice_get, if◌then◌else◌, refl, sym, ap, ap₂, ◌∙◌, subst, arith}
+use Rattle.std.proofs.Common.{◌≡◌, ◌≤◌, ◌++◌, ◌+◌, ℕ, ℤ, zero, suc, ◌==◌, Bool, true, false, List, [], ◌∷◌, Option, Some, None, length, map, slice_get, if◌then◌else◌, refl, sym, ap, ap₂, ◌∙◌, subst, arith}
 use Rattle.std.specs.Cmp.Lexicographic.{same_text}
 use Rattle.std.specs.List.{All, flat_map, list_all, list_any}
 use Rattle.std.specs.Option.{option_map}
 use Rattle.std.specs.Str.{bytes_eq}
-use Rattle.std.proofs.lemmas.Bool.{le-ltb, lt-ltb, ltb-true, ltb-false}
-use Rattle.std.proofs.lemmas.List.{append-nil, length-append}
-use Rattle.std.proofs.lemmas.List.Elements.{All-cons, All-nil}
+use Rattle.std.proofs.lemmas.Bool.{eq-eqb, eqb-false, eqb-true, ne_eqb}
+use Rattle.std.proofs.lemmas.List.{append-nil}
+use Rattle.std.proofs.lemmas.List.Elements.{All-cons, All-get_or, All-nil}
+use Rattle.std.proofs.lemmas.Option.{get_or_from_slice_get, slice_get_within}
 use Rattle.og_base.proofs.SetMembers.{list_any-set_of}
 use Rattle.og_value.specs.Values.{row_at}
 use Rattle.og_value.specs.Words.{is_word, folded}
@@ -17,10 +18,10 @@ use Rattle.og_query.specs.Kinds.{fits, kind_in, kinds_of}
 use Rattle.og_query.specs.declared.query.Core.{Core}
 use Rattle.og_query.specs.declared.query.From1.{From1}
 use Rattle.og_query.proofs.QueryLemmas.{rows_ordered}
-use Rattle.og_exec.specs.Tables.{Relations, rows_at, rows_on, rows_or_none, size_or_none, sizes_of}
+use Rattle.og_exec.specs.Tables.{Relations, rows_at, rows_on, rows_or_none}
 use Rattle.og_db.specs.Database.{Relation}
 use Rattle.og_db.specs.Held.{Held, changed_at, found, made_of, rows_of}
-use Rattle.og_view.specs.Placed.{AreGrown, AreLonger, beside, columns_at, gets, letters, place_rels, place_schemas, placed, placed_from, placed_core, placed_query}
+use Rattle.og_view.specs.Placed.{AreGrown, beside, columns_at, gets, letters, place_rels, place_schemas, placed, placed_from, placed_core, placed_query}
 use Rattle.og_view.specs.Rows.{IsAlike}
 
 -- one more letter
@@ -59,12 +60,20 @@ pub nothing_and : (k : ℕ) → 0 + k ≡ k
 nothing_and k = omega arith
 
 -- numbers that are each one more
-one_off : (a b : ℕ) → nat_lt (suc a) (suc b) ≡ nat_lt a b
-one_off a b = at (nat_lt a b) refl
+one_off : (a b : ℕ) → (suc a == suc b) ≡ (a == b)
+one_off a b = at (a == b) refl
   where
-    at : (c : Bool) → nat_lt a b ≡ c → nat_lt (suc a) (suc b) ≡ nat_lt a b
-    at true is = lt-ltb (suc a) (suc b) (omega (arith, ltb-true a b is)) ∙ sym is
-    at false is = le-ltb (suc a) (suc b) (omega (arith, ltb-false a b is)) ∙ sym is
+    at : (c : Bool) → (a == b) ≡ c → (suc a == suc b) ≡ (a == b)
+    at true is = eq-eqb (suc a) (suc b) (ap suc (eqb-true a b is)) ∙ sym is
+    at false is = ne_eqb (suc a) (suc b) (λ e. eqb-false a b is (omega (arith, e))) ∙ sym is
+
+-- and one that is more than none
+some_more : (a : ℕ) → (suc a == 0) ≡ false
+some_more a = ne_eqb (suc a) 0 (λ e. absurd (omega (arith, e)))
+
+-- in either order
+none_less : (a : ℕ) → (0 == suc a) ≡ false
+none_less a = ne_eqb 0 (suc a) (λ e. absurd (omega (arith, e)))
 
 -- the tables with one more
 pub placed_from-push : (k : ℕ) (tables : List From1) (table : From1) → placed_from k (tables ++ table ∷ []) ≡ placed_from k tables ++ placed (k + length tables) table ∷ []
@@ -104,6 +113,10 @@ placed_fits schemas core fit = record {
   rest = All-nil (IsFitRest (place_schemas core.tables) (placed_core core));
 }
 
+-- a table is known as it is named
+pub named_at : (schemas : Schemas) (tables : List From1) → All (IsAsNamed schemas) tables → (k : ℕ) (table : From1) → slice_get tables k ≡ Some table → IsAsNamed schemas table
+named_at schemas tables all k table is = subst (IsAsNamed schemas) (get_or_from_slice_get tables k table table is) (All-get_or (IsAsNamed schemas) tables k table (slice_get_within tables k table is) all)
+
 module _ {A : Type 0} where
   -- what is made of each place
   abbrev pub by_place : (ℕ → A) → List From1 → List A
@@ -117,37 +130,35 @@ module _ {A : Type 0} where
       ap₂ (λ x xs. x ∷ xs) (ap (λ n. make (112 ∷ letters n)) (and_nothing k))
       (placed-by_place make (suc k) tables ∙ (λ i. by_place (λ j. make (112 ∷ letters (one_across k j i))) tables))
 
-  module _ (after before : Relations) (new : Relation) (read : Option Relation → A) where
+  module _ (named : Relations) (new : Relation) (read : Option Relation → A) where
     -- what is read at each place
     abbrev pub sided : ℕ → List From1 → List A
     sided zero [] = []
-    sided zero (table ∷ tables) = read (Some new) ∷ map (λ table. read (before table.name)) tables
+    sided zero (table ∷ tables) = read (Some new) ∷ map (λ table. read (named table.name)) tables
     sided (suc place) [] = []
-    sided (suc place) (table ∷ tables) = read (after table.name) ∷ sided place tables
+    sided (suc place) (table ∷ tables) = read (named table.name) ∷ sided place tables
 
-    behind : (at : ℕ → ℕ) (tables : List From1) → by_place (λ k. read (beside after before new zero (suc (at k)) (slice_get tables k))) tables ≡ map (λ table. read (before table.name)) tables
+    behind : (at : ℕ → ℕ) (tables : List From1) → by_place (λ k. read (beside named new zero (suc (at k)) (slice_get tables k))) tables ≡ map (λ table. read (named table.name)) tables
     behind at [] = refl
-    behind at (table ∷ tables) =
-        ap₂ (λ x xs. x ∷ xs) (λ i. read (if le-ltb (suc (at 0)) 0 (omega arith) i then after table.name else if lt-ltb 0 (suc (at 0)) (omega arith) i then before table.name else Some new))
-        (behind (λ k. at (suc k)) tables)
+    behind at (table ∷ tables) = ap₂ (λ x xs. x ∷ xs) (λ i. read (if some_more (at 0) i then Some new else named table.name)) (behind (λ k. at (suc k)) tables)
 
-    one_before : (place k : ℕ) (o : Option From1) → beside after before new (suc place) (suc k) o ≡ beside after before new place k o
+    one_before : (place k : ℕ) (o : Option From1) → beside named new (suc place) (suc k) o ≡ beside named new place k o
     one_before place k None = refl
-    one_before place k (Some table) = λ i. if one_off k place i then after table.name else if one_off place k i then before table.name else Some new
+    one_before place k (Some table) = λ i. if one_off k place i then Some new else named table.name
 
-    beside-by_place : (place : ℕ) (tables : List From1) → by_place (λ k. read (beside after before new place k (slice_get tables k))) tables ≡ sided place tables
+    beside-by_place : (place : ℕ) (tables : List From1) → by_place (λ k. read (beside named new place k (slice_get tables k))) tables ≡ sided place tables
     beside-by_place zero [] = refl
     beside-by_place (suc place) [] = refl
     beside-by_place zero (table ∷ tables) = ap (λ rest. read (Some new) ∷ rest) (behind (λ k. k) tables)
     beside-by_place (suc place) (table ∷ tables) =
-        ap₂ (λ x xs. x ∷ xs) (λ i. read (if lt-ltb 0 (suc place) (omega arith) i then after table.name else if nat_lt (suc place) 0 then before table.name else Some new))
+        ap₂ (λ x xs. x ∷ xs) (λ i. read (if none_less place i then Some new else named table.name))
         ((λ i. by_place (λ k. read (one_before place k (slice_get tables k) i)) tables) ∙ beside-by_place place tables)
 
     -- what is read by the names of the places
-    pub place_reads : (place : ℕ) (tables : List From1) → map (λ table. read (place_rels after before new place tables table.name)) (placed_from 0 tables) ≡ sided place tables
+    pub place_reads : (place : ℕ) (tables : List From1) → map (λ table. read (place_rels named new place tables table.name)) (placed_from 0 tables) ≡ sided place tables
     place_reads place tables =
-        placed-by_place (λ name. read (place_rels after before new place tables name)) 0 tables
-        ∙ (λ i. by_place (λ k. read (beside after before new place (number k i) (slice_get tables (number k i)))) tables)
+        placed-by_place (λ name. read (place_rels named new place tables name)) 0 tables
+        ∙ (λ i. by_place (λ k. read (beside named new place (number k i) (slice_get tables (number k i)))) tables)
         ∙ beside-by_place place tables
       where
         number : (k : ℕ) → length (letters (0 + k)) ≡ k
@@ -209,17 +220,6 @@ module _ (name : List ℕ) (new : Relation) (before : List (Held Relation)) (rel
           ∙ list_any-set_of rows_ordered.exact p (rows_on old d ++ rows_on (gets name new other) d)
       at None is = sym (ap (λ more. list_any p (rows_on more d)) (none_gets other is))
 
-  -- how many rows each name has
-  pub size-after : (other : List ℕ) → sizes_of (rows_of after) other ≡ sizes_of (rows_of before) other + length (gets name new other)
-  size-after other = ap size_or_none (rows_of-after other) ∙ at (rows_of before other) refl
-    where
-      at : (o : Option Relation) → rows_of before other ≡ o → size_or_none (option_map (λ rel. rel ++ gets name new other) o) ≡ size_or_none o + length (gets name new other)
-      at (Some old) is = length-append old (gets name new other)
-      at None is = sym (ap (λ more. 0 + length more) (none_gets other is))
-
   -- so each name has what it had and what it gets
   pub grown-after : (now : List (Held Relation)) → now ≡ after → AreGrown (rows_of now) (rows_of before) name new
   grown-after now changed d day other p = ap (λ db. list_any p (rows_at (rows_of db) d other)) changed ∙ alike-after d other p
-
-  pub longer-after : (now : List (Held Relation)) → now ≡ after → AreLonger (rows_of now) (rows_of before) name new
-  longer-after now changed other = ap (λ db. sizes_of (rows_of db) other) changed ∙ size-after other

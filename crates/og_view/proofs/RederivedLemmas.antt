@@ -13,7 +13,7 @@ use Rattle.og_base.proofs.SetMembers.{list_any-filter, list_any-set_of, list_any
 use Rattle.og_value.specs.Order.{row_order}
 use Rattle.og_value.specs.Values.{row_at}
 use Rattle.og_rel.specs.Relations.{others}
-use Rattle.og_rel.proofs.AlgebraLemmas.{or_false, same_set_by_tests}
+use Rattle.og_rel.proofs.AlgebraLemmas.{any_of_none, or_false, same_set_by_tests}
 use Rattle.og_rel.proofs.PresentLemmas.{list_any-relation_at, relation_at-append}
 use Rattle.og_join.proofs.PlaceTests.{list_any-known}
 use Rattle.og_query.specs.Queries.{Fixed, core_rows, ordinary_query}
@@ -33,11 +33,6 @@ use Rattle.og_view.proofs.LiveLemmas.{ordinary_query-live}
 use Rattle.og_view.proofs.SieveLemmas.{passes-on_day, rows_on-filter}
 use Rattle.og_view.proofs.TakenLemmas.{any_parted}
 
--- none of some
-none_of : {A : Type 0} (xs : List A) → list_any (λ _. false) xs ≡ false
-none_of [] = refl
-none_of (x ∷ xs) = none_of xs
-
 -- what passes is not among what does not
 not_both : (present passing other : Bool) → passing ≡ true → (present && (not passing && other)) ≡ false
 not_both true true other is = refl
@@ -55,7 +50,7 @@ module _ (d : ℤ) (tests : List Test) where
         ∙ list_any-relation_at rows_ordered row_at (λ row. not (passes tests row) && t row) lost d
         ∙ list_any-known (λ p. row_passes tests p.0 ≡ true) _ (λ _. false)
         (λ p is. not_both (holds_day p.1 d) (passes tests (row_at p.0 d)) (t (row_at p.0 d)) (passes-on_day tests p.0 d ∙ is)) lost pass
-        ∙ none_of lost
+        ∙ any_of_none lost
 
     -- so on a day they are those that are left and do not pass
     others_left : (t : Fixed → Bool) → list_any t (rows_on (others (row_passes tests) result) d) ≡ list_any t (filter (λ row. not (passes tests row)) left)
@@ -112,19 +107,19 @@ module _ (d : ℤ) (named : Relations) (tests : List Test) where
 module _ (query : Query) (live : IsLiveQuery query) (old left : List (Held Relation)) (name : List ℕ) (gone : Relation) (shrinks : AreGrown (rows_of old) (rows_of left) name gone)
     (tests : List Test) (result lost again : Relation) (pass : All (λ p. row_passes tests p.0 ≡ true) lost) (d : ℤ) (day : IsRefDay d)
     (answer : rows_on result d ≡ ordinary_query d (rows_at (rows_of old) d) query)
-    (taken : rows_on lost d ≡ set_of row_order (flat_map (more_rows d (rows_of left) name gone) (cores_of query)))
+    (taken : rows_on lost d ≡ set_of row_order (flat_map (more_rows d (rows_of old) name gone) (cores_of query)))
     (there : rows_on again d ≡ filter (passes tests) (ordinary_query d (rows_at (rows_of left) d) query)) where
   -- its rows that do not pass, and those that do and are left, are the answer over what is left
   pub answer-left : ordinary_query d (rows_at (rows_of left) d) query ≡ rows_on (others (row_passes tests) result ++ again) d
   answer-left =
-      sym (left-again d tests result lost (ordinary_query d (rows_at (rows_of left) d) query) (flat_map (more_rows d (rows_of left) name gone) (cores_of query))
+      sym (left-again d tests result lost (ordinary_query d (rows_at (rows_of left) d) query) (flat_map (more_rows d (rows_of old) name gone) (cores_of query))
       (answer ∙ answer-grown query live left old name gone shrinks d day) taken pass (answer_rises d (rows_at (rows_of left) d) query) again there)
 
   -- and with the rows that new ones add the answer over what there is then
   pub answer-replaced : (after : List (Held Relation)) (new more : Relation) → AreGrown (rows_of after) (rows_of left) name new
-      → rows_on more d ≡ set_of row_order (flat_map (more_rows d (rows_of left) name new) (cores_of query))
+      → rows_on more d ≡ set_of row_order (flat_map (more_rows d (rows_of after) name new) (cores_of query))
       → ordinary_query d (rows_at (rows_of after) d) query ≡ rows_on (others (row_passes tests) result ++ (again ++ more)) d
   answer-replaced after new more grows add =
       answer-more query live left after name new grows more d day add
-      ∙ sym (left-again-more d tests result lost (ordinary_query d (rows_at (rows_of left) d) query) (flat_map (more_rows d (rows_of left) name gone) (cores_of query))
+      ∙ sym (left-again-more d tests result lost (ordinary_query d (rows_at (rows_of left) d) query) (flat_map (more_rows d (rows_of old) name gone) (cores_of query))
       (answer ∙ answer-grown query live left old name gone shrinks d day) taken pass (answer_rises d (rows_at (rows_of left) d) query) again there more)

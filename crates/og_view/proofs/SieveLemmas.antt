@@ -1,5 +1,5 @@
 -- Rows that pass tests: that no day changes it, what a relation has of them on a day, and what some keys more make of it.
-use Rattle.std.proofs.Common.{◌≡◌, ◌≢◌, ◌++◌, ◌+◌, ◌&&◌, Contains, ℕ, ℤ, zero, suc, pos, Bool, true, false, List, [], ◌∷◌, length, filter, get_or, slice_get, slice_index_or, take, ◌<◌, Some, Ordering, Less, Equal, Greater, ◌≤◌, ◌||◌, refl, sym, ap, ap₂, ◌∙◌, arith}
+use Rattle.std.proofs.Common.{◌≡◌, ◌≢◌, ◌++◌, ◌+◌, ◌&&◌, Contains, ℕ, ℤ, zero, suc, pos, Bool, true, false, not, List, [], ◌∷◌, length, filter, get_or, slice_get, slice_index_or, take, ◌<◌, Some, Ordering, Less, Equal, Greater, ◌≤◌, ◌||◌, refl, sym, ap, ap₂, ◌∙◌, arith}
 use Rattle.std.specs.List.{All, list_all, list_any}
 use Rattle.std.proofs.lemmas.List.{length-take-le, take_more}
 use Rattle.std.proofs.lemmas.List.Elements.{All-cons, All-contains, All-get_or, All-nil, filter-append}
@@ -16,8 +16,8 @@ use Rattle.og_value.specs.declared.value.FixedValue.{FixedValue}
 use Rattle.og_value.specs.declared.value.FixedValue.TheVariants as f
 use Rattle.og_value.specs.declared.value.Value.{Value}
 use Rattle.og_value.specs.declared.value.Value.TheVariants.{Int, Text, Point, Period}
-use Rattle.og_rel.specs.Relations.{HasDays, present, stored}
-use Rattle.og_rel.proofs.AlgebraLemmas.{same_set_by_tests}
+use Rattle.og_rel.specs.Relations.{HasDays, instead, others, present, stored}
+use Rattle.og_rel.proofs.AlgebraLemmas.{filter-both, same_set_by_tests}
 use Rattle.og_rel.proofs.PresentLemmas.{at_place, list_any-present}
 use Rattle.og_query.specs.Expressions.{no_value}
 use Rattle.og_query.specs.Queries.{Fixed}
@@ -73,6 +73,20 @@ rows_on-filter kept test d same rel =
 -- so are those that pass tests
 pub rows_on-sifted : (tests : List Test) (rel : Relation) (d : ℤ) → rows_on (sifted tests rel) d ≡ filter (passes tests) (rows_on rel d)
 rows_on-sifted tests rel d = rows_on-filter (row_passes tests) (passes tests) d (λ row. passes-on_day tests row d) rel
+
+-- rows that pass tests, where others stand in the place of some, are those of either that pass
+pub sifted-instead : (tests : List Test) (gives : List Value → Bool) (own more : Relation) → instead gives (sifted tests more) (sifted tests own) ≡ sifted tests (instead gives more own)
+sifted-instead tests gives own more =
+    ap (λ rows. rows ++ sifted tests more)
+    (sym (filter-both (λ p. row_passes tests p.0 && not (gives p.0)) (λ p. row_passes tests p.0) (λ p. not (gives p.0)) (λ p. refl) own)
+    ∙ filter-both (λ p. row_passes tests p.0 && not (gives p.0)) (λ p. not (gives p.0)) (λ p. row_passes tests p.0) (λ p. and_across (row_passes tests p.0) (not (gives p.0))) own)
+    ∙ sym (filter-append (λ p. row_passes tests p.0) (others gives own) more)
+  where
+    and_across : (a b : Bool) → (a && b) ≡ (b && a)
+    and_across true true = refl
+    and_across true false = refl
+    and_across false true = refl
+    and_across false false = refl
 
 -- without tests all rows pass
 pub sifted-none : (rel : Relation) → sifted [] rel ≡ rel

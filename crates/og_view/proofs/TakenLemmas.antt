@@ -10,6 +10,7 @@ use Rattle.og_base.specs.Calendar.{IsRefDay}
 use Rattle.og_base.specs.Set.{set_of}
 use Rattle.og_base.proofs.SetMembers.{list_any-filter, list_any-set_of}
 use Rattle.og_value.specs.Order.{row_order}
+use Rattle.og_rel.proofs.AlgebraLemmas.{any_of_either}
 use Rattle.og_query.specs.Queries.{Fixed}
 use Rattle.og_query.proofs.QueryLemmas.{rows_ordered}
 use Rattle.og_exec.specs.Tables.{rows_at, rows_on, rows_or_none}
@@ -44,17 +45,6 @@ module _ (d : ℤ) (before after : List (Held Relation)) (name : List ℕ) (f : 
       at None false = refl
       at (Some rows) true = refl
       at (Some rows) false = refl
-
--- a test or another, of some member
-any_of_either : (p q : Fixed → Bool) (xs : List Fixed) → list_any (λ x. p x || q x) xs ≡ (list_any p xs || list_any q xs)
-any_of_either p q [] = refl
-any_of_either p q (x ∷ xs) = ap (λ b. (p x || q x) || b) (any_of_either p q xs) ∙ across (p x) (q x) (list_any p xs) (list_any q xs)
-  where
-    across : (a b c d : Bool) → ((a || b) || (c || d)) ≡ ((a || c) || (b || d))
-    across true b c d = refl
-    across false true true d = refl
-    across false true false d = refl
-    across false false c d = refl
 
 -- rows are those of which a condition does not hold and those of which it does
 pub any_parted : (holds p : Fixed → Bool) (rows : List Fixed) → list_any p rows ≡ list_any p (filter (λ row. not (holds row)) rows ++ filter holds rows)

@@ -12,6 +12,8 @@ use Rattle.og_exec.specs.Tables.{Relation, Relations, rows_at}
 use Rattle.og_view.specs.Rows.{rows_over}
 use Rattle.og_view.specs.Sieves.{Test, passes, sifted}
 use Rattle.og_view.specs.declared.again.Part.{Part}
+use Rattle.og_view.specs.declared.part.PartRows.{PartRows}
+use Rattle.og_view.specs.declared.part.PartRows.TheVariants as part_rows
 
 -- how many columns tables have together
 abbrev pub width_of : List From1 → ℕ
@@ -29,31 +31,30 @@ IsThrough items before table item n = (place : ℕ) × (slice_get items item ≡
 abbrev pub IsHanded : List Test → List Expr → List From1 → From1 → Test → Type 0
 IsHanded tests items before table test = (item : ℕ) × Contains tests (item, test.1) × IsThrough items before table item test.0
 
--- the one relation, or the other where there is none
-abbrev pub or_table : Option Relation → Option Relation → Option Relation
-or_table (Some rel) other = Some rel
-or_table None other = other
+-- the rows of a part
+abbrev pub rel_of : PartRows → Relation
+rel_of (part_rows.All rel) = rel.now
+rel_of (part_rows.Sifted rel) = rel
 
 -- a part of a table, which stands behind others: its rows that pass tests that are handed down
 abbrev pub IsPart : Relations → List Test → List Expr → List From1 → From1 → Part → Type 0
-IsPart named tests items before table part = (or_table part.rows (named table.name) ≡ option_map (sifted part.sieve) (named table.name)) × All (IsHanded tests items before table) part.sieve
+IsPart named tests items before table part = (option_map rel_of part.rows ≡ option_map (sifted part.sieve) (named table.name)) × All (IsHanded tests items before table) part.sieve
 
--- parts of the first of some tables, which stand behind others
+-- parts of tables, which stand behind others
 abbrev pub AreParts : Relations → List Test → List Expr → List From1 → List From1 → List Part → Type 0
-AreParts named tests items before tables [] = ⊤
-AreParts named tests items before [] (part ∷ parts) = ⊥
+AreParts named tests items before [] [] = ⊤
 AreParts named tests items before (table ∷ tables) (part ∷ parts) = IsPart named tests items before table part × AreParts named tests items (before ++ table ∷ []) tables parts
+AreParts named tests items before _ _ = ⊥
 
--- what a part of a table has, or the table itself where there is none
-abbrev pub part_at : Relations → Option From1 → Option Part → Option Relation
-part_at named None part = None
-part_at named (Some table) None = named table.name
-part_at named (Some table) (Some part) = or_table part.rows (named table.name)
+-- what a part has, where it is there
+abbrev pub part_at : Option Part → Option Relation
+part_at None = None
+part_at (Some part) = option_map rel_of part.rows
 
 -- the relation of each name of a place
-abbrev pub part_rels : Relations → List Part → List From1 → Relations
-part_rels named parts tables [] = None
-part_rels named parts tables (letter ∷ name) = part_at named (slice_get tables (length name)) (slice_get parts (length name))
+abbrev pub part_rels : List Part → Relations
+part_rels parts [] = None
+part_rels parts (letter ∷ name) = part_at (slice_get parts (length name))
 
 -- the rows of a core on a day that pass tests
 abbrev pub passing_rows : ℤ → Relations → List Test → Core → List Fixed

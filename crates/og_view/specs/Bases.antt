@@ -1,15 +1,21 @@
 -- The bases of a view: copies of tables.
-use Rattle.std.specs.Prelude.{◌≡◌, ℕ, List, Some}
+use Rattle.std.specs.Prelude.{◌≡◌, ℕ, Bool, List, Some}
 use Rattle.og_value.specs.declared.kind.What.{What}
 use Rattle.og_value.specs.declared.schema.Column.{Column}
+use Rattle.og_value.specs.declared.value.Value.{Value}
+use Rattle.og_rel.specs.Relations.{instead}
 use Rattle.og_query.specs.Fits.{Known, Schemas, tables_of}
 use Rattle.og_exec.specs.Tables.{Relations, IsThere}
 use Rattle.og_db.specs.Database.{Relation, HaveKinds, IsTableOf}
-use Rattle.og_db.specs.Held.{Held, known_of, rows_of}
+use Rattle.og_db.specs.Held.{Held, changed_at, known_of, rows_of}
 
 -- each name that has columns has a relation, and its rows fit them
 abbrev pub AreHeld : Schemas → Relations → Type 0
 AreHeld schemas named = (name : List ℕ) (columns : List Column) → schemas name ≡ Some columns → IsThere named (name, columns)
+
+-- so it is with these names, and new rows fit the columns of that one
+abbrev pub HasNew : Schemas → Relations → List ℕ → Relation → Type 0
+HasNew schemas named name new = AreHeld schemas named × (columns : List Column) × (schemas name ≡ Some columns) × HaveKinds columns new
 
 -- each base is what is known of its name, and has the relation of its name
 abbrev pub AreCopied : Known → Relations → List (Held Relation) → Type 0
@@ -22,3 +28,7 @@ AreMore old new = (name : List ℕ) (columns : List Column) → tables_of (known
 -- the base of that name is a table whose columns the rows of the relation fit
 abbrev pub IsPut : List (Held Relation) → List ℕ → Relation → Type 0
 IsPut bases name rel = (columns : List Column) × IsTableOf columns bases name × HaveKinds columns rel
+
+-- the bases, where in that one rows stand in the place of those that pass a test
+abbrev pub instead_at : List ℕ → (List Value → Bool) → Relation → List (Held Relation) → List (Held Relation)
+instead_at name passes more bases = changed_at name (instead passes more) bases

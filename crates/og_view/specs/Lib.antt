@@ -4,5 +4,4 @@ pub mod Placed
 pub mod Plans
 pub mod Rows
 pub mod Sieves
-pub mod Sizes
 pub mod Views

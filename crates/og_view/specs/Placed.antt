@@ -1,5 +1,5 @@
--- Cores under names by place, so that each place of FROM can have a relation of its own, and what such places have while a table gets new rows.
-use Rattle.std.specs.Prelude.{◌≡◌, ◌+◌, ◌++◌, ℕ, zero, suc, ℤ, nat_lt, List, [], ◌∷◌, Option, Some, None, length, map, slice_get, if◌then◌else◌}
+-- Cores under names by place, so that each place of FROM can have a relation of its own, and what such places have where a table gets new rows.
+use Rattle.std.specs.Prelude.{◌==◌, ◌++◌, ℕ, zero, suc, ℤ, nat_le, Bool, List, [], ◌∷◌, Option, Some, None, filter, length, map, slice_get, if◌then◌else◌}
 use Rattle.std.specs.List.{flat_map}
 use Rattle.std.specs.Str.{bytes_eq}
 use Rattle.og_base.specs.Calendar.{IsRefDay}
@@ -9,10 +9,9 @@ use Rattle.og_query.specs.Queries.{Fixed}
 use Rattle.og_query.specs.declared.query.Core.{Core}
 use Rattle.og_query.specs.declared.query.From1.{From1}
 use Rattle.og_query.specs.declared.query.Query.{Query}
-use Rattle.og_exec.specs.Tables.{Relations, rows_at, rows_on, sizes_of}
+use Rattle.og_exec.specs.Tables.{Relations, rows_at, rows_on}
 use Rattle.og_db.specs.Database.{Relation}
-use Rattle.og_view.specs.Rows.{IsAlike, rows_over, steps}
-use Rattle.og_view.specs.Sizes.{first_steps_size, steps_size}
+use Rattle.og_view.specs.Rows.{IsAlike, rows_over, turns}
 
 -- so many letters p
 abbrev pub letters : ℕ → List ℕ
@@ -50,15 +49,15 @@ abbrev pub place_schemas : List From1 → Schemas
 place_schemas tables [] = None
 place_schemas tables (letter ∷ name) = columns_at (slice_get tables (length name))
 
--- what a table has at a place, where another place has the new rows: those before it have what is after the change, and those behind it what was before
-abbrev pub beside : Relations → Relations → Relation → ℕ → ℕ → Option From1 → Option Relation
-beside after before new place k None = None
-beside after before new place k (Some table) = if nat_lt k place then after table.name else if nat_lt place k then before table.name else Some new
+-- what a table has at a place, where one place has the new rows alone, and the others have the tables
+abbrev pub beside : Relations → Relation → ℕ → ℕ → Option From1 → Option Relation
+beside named new place k None = None
+beside named new place k (Some table) = if k == place then Some new else named table.name
 
 -- the relation of each name of a place
-abbrev pub place_rels : Relations → Relations → Relation → ℕ → List From1 → Relations
-place_rels after before new place tables [] = None
-place_rels after before new place tables (letter ∷ name) = beside after before new place (length name) (slice_get tables (length name))
+abbrev pub place_rels : Relations → Relation → ℕ → List From1 → Relations
+place_rels named new place tables [] = None
+place_rels named new place tables (letter ∷ name) = beside named new place (length name) (slice_get tables (length name))
 
 -- the rows that a name gets, where one name gets new rows
 abbrev pub gets : List ℕ → Relation → List ℕ → Relation
@@ -68,21 +67,14 @@ gets name new other = if bytes_eq name other then new else []
 abbrev pub AreGrown : Relations → Relations → List ℕ → Relation → Type 0
 AreGrown after before name new = (d : ℤ) → IsRefDay d → (other : List ℕ) → IsAlike (rows_at after d other) (rows_at before d other ++ rows_on (gets name new other) d)
 
--- and it has so many rows
-abbrev pub AreLonger : Relations → Relations → List ℕ → Relation → Type 0
-AreLonger after before name new = (other : List ℕ) → sizes_of after other ≡ sizes_of before other + length (gets name new other)
-
--- the lists of rows of one day that a core has more, place by place, where a name gets new rows
+-- the lists of rows of one day that the places of a core have, where place by place a name has the new rows alone
 abbrev pub more_lists : ℤ → Relations → List ℕ → Relation → Core → List (List (List Fixed))
-more_lists d before name new core = steps [] (map (λ table. rows_at before d table.name) core.tables) (map (λ table. rows_on (gets name new table.name) d) core.tables)
+more_lists d named name new core = turns (map (λ table. rows_at named d table.name) core.tables) (map (λ table. rows_on (gets name new table.name) d) core.tables)
 
--- the rows that it has more
+-- the rows that the core has by the new rows of a name, over tables that have them
 abbrev pub more_rows : ℤ → Relations → List ℕ → Relation → Core → List Fixed
-more_rows d before name new core = flat_map (rows_over d core) (more_lists d before name new core)
+more_rows d named name new core = flat_map (rows_over d core) (more_lists d named name new core)
 
--- how many rows these have at most, of the first places and of all
-abbrev pub first_more_size : ℕ → Relations → List ℕ → Relation → Core → ℕ
-first_more_size k before name new core = first_steps_size k [] (map (λ table. sizes_of before table.name) core.tables) (map (λ table. length (gets name new table.name)) core.tables)
-
-abbrev pub more_size : Relations → List ℕ → Relation → Core → ℕ
-more_size before name new core = steps_size [] (map (λ table. sizes_of before table.name) core.tables) (map (λ table. length (gets name new table.name)) core.tables)
+-- whether the core has the name at one place at most
+abbrev pub has_once : List ℕ → Core → Bool
+has_once name core = nat_le (length (filter (λ table. bytes_eq name table.name) core.tables)) 1

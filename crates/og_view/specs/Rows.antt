@@ -1,5 +1,5 @@
 -- The rows of a core over lists of rows, one for each place of FROM.
-use Rattle.std.specs.Prelude.{◌≡◌, ◌++◌, ℤ, Bool, List, [], ◌∷◌, map, filter}
+use Rattle.std.specs.Prelude.{◌≡◌, ℤ, Bool, List, [], ◌∷◌, map, filter}
 use Rattle.std.specs.List.{list_any}
 use Rattle.og_base.specs.Set.{set_of}
 use Rattle.og_value.specs.Order.{row_order}
@@ -16,12 +16,7 @@ rows_over d core lists = set_of row_order (map (image d core.items) (filter (λ 
 abbrev pub IsAlike : List Fixed → List Fixed → Type 0
 IsAlike xs ys = (p : Fixed → Bool) → list_any p xs ≡ list_any p ys
 
--- each list with its new rows behind it
-abbrev pub grown : List (List Fixed) → List (List Fixed) → List (List Fixed)
-grown (rows ∷ lists) (new ∷ news) = (rows ++ new) ∷ grown lists news
-grown lists news = lists
-
--- place by place the new rows alone, behind lists that are grown already and before those that are not yet
-abbrev pub steps : List (List Fixed) → List (List Fixed) → List (List Fixed) → List (List (List Fixed))
-steps front (rows ∷ lists) (new ∷ news) = (front ++ new ∷ lists) ∷ steps (front ++ (rows ++ new) ∷ []) lists news
-steps front lists news = []
+-- of some lists and new rows of each: place by place the new rows there, and the lists at the other places
+abbrev pub turns : List (List Fixed) → List (List Fixed) → List (List (List Fixed))
+turns (rows ∷ lists) (new ∷ news) = (new ∷ lists) ∷ map (λ one. rows ∷ one) (turns lists news)
+turns lists news = []

@@ -9,60 +9,58 @@ ghost use Rattle.og_query.specs.Fits.{IsFitCore, Schemas};
 ghost use Rattle.og_query.specs.declared.query.From1.{From1};
 ghost use Rattle.og_plan.specs.Parts as parts;
 ghost use Rattle.og_exec.specs.Tables.{rows_on};
+ghost use Rattle.og_db.specs.Held.{rows_of};
 ghost use Rattle.og_view.specs.Again as spec;
 ghost use Rattle.og_view.specs.Again.{AreParts, IsHanded, IsPart, IsThrough, LiesIn, passing_rows};
 ghost use Rattle.og_view.specs.Bases.{AreHeld};
 
+use crate::instead::Instead;
+use crate::part::PartRows;
 use crate::placed::Placed;
 use crate::sieve::{Sieve, Test};
 use og_base::NoMemory;
 use og_db::fitting_rows;
 use og_par::Gate;
 use og_query::{Core, Expr, From1};
-use og_rel::{Rel, Tables};
+use og_rel::{Rel, RowTest, Tables};
 use og_value::Row;
 use std::alloc::Global;
 use std::thread::Threads;
 
-// The part of a table that its tests leave: None where there are no tests, or no table.
+// The part of a table that its tests leave; no rows where there is no such table.
 #[derive(Drop)]
-pub(crate) struct Part<'k> {
+pub(crate) struct Part<'k, 't> {
     sieve: Sieve<'k>,
-    rows: Option<Rel<Row>>,
+    rows: Option<PartRows<'t>>,
 }
 
-// The places of a core: of each the part of its table, where there is one, and else the table.
+// The places of a core, each with the part of its table.
 #[derive(Drop)]
-struct Parts<'p, 'k, T> {
-    tables: &'p [From1],
-    parts: &'p [Part<'k>],
-    over: &'p T,
+struct Parts<'p, 'k, 't> {
+    parts: &'p [Part<'k, 't>],
 }
 
-impl<'p, 'k, T: Tables<Row>> Parts<'p, 'k, T> {
+impl Parts<'_, '_, '_> {
     // The relation of a place.
     fn at(&self, place: usize) -> Option<&Rel<Row>>
-        ensures { option_map (λ r. r.now) result ≡ spec.part_at (T.named self.now.over.now) (slice_get self.now.tables.now place) (slice_get self.now.parts.now place) }
+        ensures { option_map (λ r. r.now) result ≡ spec.part_at (slice_get self.now.parts.now place) }
     {
-        let Some(table) = self.tables.get(place) else {
-            return None;
-        };
         match self.parts.get(place) {
             Some(
                 Part {
-                    rows: Some(rel),
+                    rows: Some(rows),
                     ..
                 },
-            ) => Some(rel),
-            _ => self.over.rel(table.name.bytes()),
+            ) => Some(rows.rel()),
+            _ => None,
         }
     }
 }
 
-impl<'p, 'k, T: Tables<Row>> Tables<Row> for Parts<'p, 'k, T> {
+impl Tables<Row> for Parts<'_, '_, '_> {
     ghost use Rattle.og_view.specs.Again.{part_rels};
 
-    ghost named = { λ p. part_rels (T.named p.over.now) p.parts.now p.tables.now };
+    ghost named = { λ p. part_rels p.parts.now };
 
     fn rel(&self, name: &[u8]) -> Option<&Rel<Row>> {
         match name.split_first() {
@@ -142,37 +140,31 @@ fn handed<'k>(
 }
 
 // The part of the table at a place that can have to do with rows that pass the sieve.
-fn part_of<'k, T: Tables<Row>>(
+fn part_of<'k, 't, T: RowTest<Row>>(
     alloc: Global,
     sieve: &Sieve<'k>,
     core: &Core,
     place: usize,
-    over: &T,
-) -> Result<Part<'k>, NoMemory>
+    over: &Instead<'t, T>,
+) -> Result<Part<'k, 't>, NoMemory>
     requires { place < length core.now.tables }
     ensures { (table : From1) → slice_get core.now.tables place ≡ Some table →
-        IfOk result (IsPart (T.named over.now) sieve.now core.now.items (take place core.now.tables) table) }
+        IfOk result (IsPart (rows_of over.now) sieve.now core.now.items (take place core.now.tables) table) }
 {
     let tables = core.tables.as_slice();
     let sieve = handed(alloc, sieve, core.items.as_slice(), tables, place)?;
-    if sieve.tests.len() == 0 {
-        return Ok(Part { sieve, rows: None });
-    }
-    let rows = match over.rel(tables[place].name.bytes()) {
-        Some(rel) => Some(sieve.sifted(alloc, rel)?),
-        None => None,
-    };
+    let rows = over.part(&tables[place].name, &sieve)?;
     Ok(Part { sieve, rows })
 }
 
 // Such parts of all tables of a core.
-fn parts_of<'k, T: Tables<Row>>(
+fn parts_of<'k, 't, T: RowTest<Row>>(
     alloc: Global,
     sieve: &Sieve<'k>,
     core: &Core,
-    over: &T,
-) -> Result<Vec<Part<'k>>, NoMemory>
-    ensures { IfOk result (λ parts. AreParts (T.named over.now) sieve.now core.now.items [] core.now.tables parts.items) }
+    over: &Instead<'t, T>,
+) -> Result<Vec<Part<'k, 't>>, NoMemory>
+    ensures { IfOk result (λ parts. AreParts (rows_of over.now) sieve.now core.now.items [] core.now.tables parts.items) }
 {
     let mut parts = Vec::with_capacity(alloc, core.tables.len())?;
     'places: for place in 0..core.tables.len() {
@@ -182,11 +174,11 @@ fn parts_of<'k, T: Tables<Row>>(
 }
 
 // Appends the rows of a core that pass the sieve.
-fn add_again<H: Threads + Sync, T: Tables<Row>, G: Gate + Sync>(
+fn add_again<H: Threads + Sync, T: RowTest<Row>, G: Gate + Sync>(
     rt: &H,
     alloc: Global,
     placed: &Placed,
-    tables: &T,
+    over: &Instead<'_, T>,
     sieve: &Sieve<'_>,
     workers: usize,
     gate: &G,
@@ -194,41 +186,38 @@ fn add_again<H: Threads + Sync, T: Tables<Row>, G: Gate + Sync>(
 ) -> Result<(), NoMemory>
     requires least { 1 ≤ workers }
     requires most { workers ≤ max_workers }
-    requires fits { (schemas : Schemas) × IsFitCore schemas placed.now × AreHeld schemas (T.named tables.now) }
+    requires fits { (schemas : Schemas) × IsFitCore schemas placed.now × AreHeld schemas (rows_of over.now) }
     ensures { OnOk result ((d : ℤ) → IsRefDay d →
-        rows_on again.new d ≡ set_of row_order (rows_on again.old d ++ passing_rows d (T.named tables.now) sieve.now placed.now)) }
+        rows_on again.new d ≡ set_of row_order (rows_on again.old d ++ passing_rows d (rows_of over.now) sieve.now placed.now)) }
 {
     fitting_rows();
-    let core = &placed.core;
-    let parts = parts_of(alloc, sieve, core, tables)?;
+    let parts = parts_of(alloc, sieve, &placed.core, over)?;
     let places = Parts {
-        tables: core.tables.as_slice(),
         parts: parts.as_slice(),
-        over: tables,
     };
     let rel = placed.asked.answered(rt, alloc, &places, workers, gate)?;
-    again.append(sieve.sifted(alloc, &rel)?)
+    again.append(rel.passing(sieve)?)
 }
 
 // The rows of cores that pass the sieve, one core after the other.
-pub(crate) fn again_of<H: Threads + Sync, T: Tables<Row>, G: Gate + Sync>(
+pub(crate) fn again_of<H: Threads + Sync, T: RowTest<Row>, G: Gate + Sync>(
     rt: &H,
     alloc: Global,
     cores: &[Placed],
-    tables: &T,
+    over: &Instead<'_, T>,
     sieve: &Sieve<'_>,
     workers: usize,
     gate: &G,
 ) -> Result<Rel<Row>, NoMemory>
     requires least { 1 ≤ workers }
     requires most { workers ≤ max_workers }
-    requires fits { (schemas : Schemas) × All (IsFitCore schemas) cores.now × AreHeld schemas (T.named tables.now) }
+    requires fits { (schemas : Schemas) × All (IsFitCore schemas) cores.now × AreHeld schemas (rows_of over.now) }
     ensures { IfOk result (λ again. (d : ℤ) → IsRefDay d →
-        rows_on again d ≡ set_of row_order (flat_map (passing_rows d (T.named tables.now) sieve.now) cores.now)) }
+        rows_on again d ≡ set_of row_order (flat_map (passing_rows d (rows_of over.now) sieve.now) cores.now)) }
 {
     let mut again = Rel::new(alloc);
     'cores: for core in cores {
-        add_again(rt, alloc, core, tables, sieve, workers, gate, &mut again)?;
+        add_again(rt, alloc, core, over, sieve, workers, gate, &mut again)?;
     }
     Ok(again)
 }

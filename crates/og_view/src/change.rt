@@ -1,51 +1,42 @@
 //! New rows of a table, and what the places of a core have beside them.
-ghost use Rattle.std.specs.Prelude.{◌≡◌, Some, nat_lt, option_map, if◌then◌else◌};
-ghost use Rattle.og_db.specs.Held.{rows_of};
+ghost use Rattle.std.specs.Prelude.{◌≡◌, ◌==◌, Some, option_map, if◌then◌else◌};
 
-use crate::put::Put;
 use og_query::From1;
 use og_rel::{Rel, Tables};
 use og_value::{Name, Row};
 
-// The rows that the table of a name gets, and the tables before and after that.
+// New rows of the table of a name, and tables in which it has them already.
 #[derive(Drop)]
-pub(crate) struct Change<'c> {
+pub(crate) struct Change<'c, T> {
     pub(crate) name: &'c Name,
-    pub(crate) before: &'c Put<'c>,
-    pub(crate) after: &'c Put<'c>,
+    pub(crate) over: &'c T,
     pub(crate) new: &'c Rel<Row>,
 }
 
-// The places of a core, of which one has the new rows alone: those before it have the tables after the
-// change, and those behind it the tables before.
+// The places of a core, of which one has the new rows alone, and each other its table.
 #[derive(Drop)]
-pub(crate) struct Places<'p> {
+pub(crate) struct Places<'p, T> {
     pub(crate) tables: &'p [From1],
     pub(crate) place: usize,
-    pub(crate) change: &'p Change<'p>,
+    pub(crate) change: &'p Change<'p, T>,
 }
 
-impl Places<'_> {
+impl<T: Tables<Row>> Places<'_, T> {
     // The relation of a table at that place.
     fn beside(&self, k: usize, table: &From1) -> Option<&Rel<Row>>
-        ensures { option_map (λ r. r.now) result ≡ (if nat_lt k self.now.place then rows_of self.now.change.now.after.now table.now.name
-            else if nat_lt self.now.place k then rows_of self.now.change.now.before.now table.now.name else Some self.now.change.now.new.now) }
+        ensures { option_map (λ r. r.now) result ≡ (if k == self.now.place then Some self.now.change.now.new.now else T.named self.now.change.now.over.now table.now.name) }
     {
-        if k < self.place {
-            return self.change.after.rel(table.name.bytes());
+        if k == self.place {
+            return Some(self.change.new);
         }
-        if self.place < k {
-            return self.change.before.rel(table.name.bytes());
-        }
-        Some(self.change.new)
+        self.change.over.rel(table.name.bytes())
     }
 }
 
-impl Tables<Row> for Places<'_> {
-    ghost use Rattle.og_db.specs.Held.{rows_of};
+impl<T: Tables<Row>> Tables<Row> for Places<'_, T> {
     ghost use Rattle.og_view.specs.Placed.{place_rels};
 
-    ghost named = { λ p. place_rels (rows_of p.change.now.after.now) (rows_of p.change.now.before.now) p.change.now.new.now p.place p.tables.now };
+    ghost named = { λ p. place_rels (T.named p.change.now.over.now) p.change.now.new.now p.place p.tables.now };
 
     fn rel(&self, name: &[u8]) -> Option<&Rel<Row>> {
         match name.split_first() {
@@ -56,4 +47,13 @@ impl Tables<Row> for Places<'_> {
             None => None,
         }
     }
+}
+
+// What an UPDATE makes of the rows of a base: what is left of them, what is gone, and what it puts in the
+// place of that.
+#[derive(Drop)]
+pub(crate) struct Changed<'r> {
+    pub(crate) left: &'r Rel<Row>,
+    pub(crate) gone: &'r Rel<Row>,
+    pub(crate) new: &'r Rel<Row>,
 }

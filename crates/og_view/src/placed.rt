@@ -1,18 +1,15 @@
-//! Cores over names by place, which are asked for what they have more when a table gets new rows.
-ghost use Rattle.std.specs.Prelude.{◌≡◌, ◌≤◌, ◌<◌, ◌+◌, ◌++◌, ℕ, ℤ, List, [], Some, IfOk, OnOk, length, slice_index_or};
-ghost use Rattle.std.specs.List.{All, flat_map, sum_by};
+//! Cores over names by place, which are asked for what they have by new rows of a table.
+ghost use Rattle.std.specs.Prelude.{◌≡◌, ◌≤◌, ◌<◌, ◌+◌, ◌++◌, ℕ, ℤ, List, [], IfOk, OnOk, length, slice_index_or};
+ghost use Rattle.std.specs.List.{All, flat_map};
 ghost use Rattle.og_base.specs.Calendar.{IsRefDay};
 ghost use Rattle.og_base.specs.Set.{set_of};
 ghost use Rattle.og_par.specs.Limits.{max_workers};
 ghost use Rattle.og_value.specs.Order.{row_order};
-ghost use Rattle.og_value.specs.declared.schema.Column.{Column};
-ghost use Rattle.og_query.specs.Fits.{IsFitCore, IsFitQuery, Schemas, tables_of};
-ghost use Rattle.og_query.specs.Queries.{Fixed};
+ghost use Rattle.og_query.specs.Fits.{IsFitCore, IsFitQuery, Schemas};
 ghost use Rattle.og_exec.specs.Tables.{rows_on};
-ghost use Rattle.og_db.specs.Held.{known_of, rows_of};
-ghost use Rattle.og_db.specs.Database.{HaveKinds, IsTableOf};
+ghost use Rattle.og_view.specs.Bases.{HasNew};
 ghost use Rattle.og_view.specs.Placed as spec;
-ghost use Rattle.og_view.specs.Placed.{AreGrown, AreLonger, cores_of, first_more_size, more_lists, more_rows, more_size, placed_query};
+ghost use Rattle.og_view.specs.Placed.{cores_of, more_lists, more_rows, placed_query};
 ghost use Rattle.og_view.specs.Rows.{rows_over};
 
 use crate::asked::Asked;
@@ -20,7 +17,7 @@ use crate::change::{Change, Places};
 use og_base::NoMemory;
 use og_par::Gate;
 use og_query::{Core, From1, Query, copy_expressions};
-use og_rel::Rel;
+use og_rel::{Rel, Tables};
 use og_value::{Name, NameRefusal, Row};
 use sqlite_items::Items;
 use std::alloc::Global;
@@ -110,12 +107,12 @@ impl Placed {
         Ok(Placed { core, asked })
     }
 
-    // Appends the rows that the core has more by the new rows at one place, where the table there gets some.
-    fn add_at<H: Threads + Sync, G: Gate + Sync>(
+    // Appends the rows that the core has by the new rows at one place, where the table there gets some.
+    fn add_at<H: Threads + Sync, T: Tables<Row>, G: Gate + Sync>(
         &self,
         rt: &H,
         alloc: Global,
-        change: &Change<'_>,
+        change: &Change<'_, T>,
         place: usize,
         workers: usize,
         gate: &G,
@@ -124,22 +121,14 @@ impl Placed {
         requires least { 1 ≤ workers }
         requires most { workers ≤ max_workers }
         requires within { place < length self.now.tables }
-        requires fits { IsFitCore (tables_of (known_of change.now.before.now)) self.now }
-        requires known { (other : List ℕ) → known_of change.now.after.now other ≡ known_of change.now.before.now other }
-        requires after { AreGrown (rows_of change.now.after.now) (rows_of change.now.before.now) change.now.name.now change.now.new.now }
-        requires table { (columns : List Column) × IsTableOf columns change.now.before.now change.now.name.now × HaveKinds columns change.now.new.now }
-        ensures law { OnOk result ((d : ℤ) → IsRefDay d → rows_on more.new d ≡ set_of row_order (rows_on more.old d
-            ++ rows_over d self.now (slice_index_or (more_lists d (rows_of change.now.before.now) change.now.name.now change.now.new.now self.now) place []))) }
-        ensures size { OnOk result (AreLonger (rows_of change.now.after.now) (rows_of change.now.before.now) change.now.name.now change.now.new.now →
-            length more.new + first_more_size place (rows_of change.now.before.now) change.now.name.now change.now.new.now self.now
-            ≤ length more.old + first_more_size (place + 1) (rows_of change.now.before.now) change.now.name.now change.now.new.now self.now) }
+        requires fits { (schemas : Schemas) × IsFitCore schemas self.now × HasNew schemas (T.named change.now.over.now) change.now.name.now change.now.new.now }
+        ensures { OnOk result ((d : ℤ) → IsRefDay d → rows_on more.new d ≡ set_of row_order (rows_on more.old d
+            ++ rows_over d self.now (slice_index_or (more_lists d (T.named change.now.over.now) change.now.name.now change.now.new.now self.now) place []))) }
     {
         let tables = self.core.tables.as_slice();
         if change.new.len() == 0 || *change.name != tables[place].name {
             return Ok(());
         }
-        change.before.rows_fit();
-        change.after.rows_fit();
         let places = Places {
             tables,
             place,
@@ -149,26 +138,21 @@ impl Placed {
         more.append(rel)
     }
 
-    // Appends the rows that the core has more by the new rows, place by place.
-    pub(crate) fn add<H: Threads + Sync, G: Gate + Sync>(
+    // Appends the rows that the core has by the new rows, place by place.
+    pub(crate) fn add<H: Threads + Sync, T: Tables<Row>, G: Gate + Sync>(
         &self,
         rt: &H,
         alloc: Global,
-        change: &Change<'_>,
+        change: &Change<'_, T>,
         workers: usize,
         gate: &G,
         more: &mut Rel<Row>,
     ) -> Result<(), NoMemory>
         requires least { 1 ≤ workers }
         requires most { workers ≤ max_workers }
-        requires fits { IsFitCore (tables_of (known_of change.now.before.now)) self.now }
-        requires known { (other : List ℕ) → known_of change.now.after.now other ≡ known_of change.now.before.now other }
-        requires after { AreGrown (rows_of change.now.after.now) (rows_of change.now.before.now) change.now.name.now change.now.new.now }
-        requires table { (columns : List Column) × IsTableOf columns change.now.before.now change.now.name.now × HaveKinds columns change.now.new.now }
-        ensures law { OnOk result ((d : ℤ) → IsRefDay d → rows_on more.new d ≡ set_of row_order (rows_on more.old d
-            ++ more_rows d (rows_of change.now.before.now) change.now.name.now change.now.new.now self.now)) }
-        ensures size { OnOk result (AreLonger (rows_of change.now.after.now) (rows_of change.now.before.now) change.now.name.now change.now.new.now →
-            length more.new ≤ length more.old + more_size (rows_of change.now.before.now) change.now.name.now change.now.new.now self.now) }
+        requires fits { (schemas : Schemas) × IsFitCore schemas self.now × HasNew schemas (T.named change.now.over.now) change.now.name.now change.now.new.now }
+        ensures { OnOk result ((d : ℤ) → IsRefDay d → rows_on more.new d ≡ set_of row_order (rows_on more.old d
+            ++ more_rows d (T.named change.now.over.now) change.now.name.now change.now.new.now self.now)) }
     {
         'places: for place in 0..self.core.tables.len() {
             self.add_at(rt, alloc, change, place, workers, gate, more)?;
@@ -190,25 +174,20 @@ pub(crate) fn placed_cores(alloc: Global, query: &Query) -> Result<Vec<Placed>, 
     Ok(cores)
 }
 
-// The rows that cores have more by new rows, one core after the other.
-pub(crate) fn more_of<H: Threads + Sync, G: Gate + Sync>(
+// The rows that cores have by new rows, one core after the other.
+pub(crate) fn more_of<H: Threads + Sync, T: Tables<Row>, G: Gate + Sync>(
     rt: &H,
     alloc: Global,
     cores: &[Placed],
-    change: &Change<'_>,
+    change: &Change<'_, T>,
     workers: usize,
     gate: &G,
 ) -> Result<Rel<Row>, NoMemory>
     requires least { 1 ≤ workers }
     requires most { workers ≤ max_workers }
-    requires fits { All (IsFitCore (tables_of (known_of change.now.before.now))) cores.now }
-    requires known { (other : List ℕ) → known_of change.now.after.now other ≡ known_of change.now.before.now other }
-    requires after { AreGrown (rows_of change.now.after.now) (rows_of change.now.before.now) change.now.name.now change.now.new.now }
-    requires table { (columns : List Column) × IsTableOf columns change.now.before.now change.now.name.now × HaveKinds columns change.now.new.now }
-    ensures law { IfOk result (λ more. (d : ℤ) → IsRefDay d →
-        rows_on more d ≡ set_of row_order (flat_map (more_rows d (rows_of change.now.before.now) change.now.name.now change.now.new.now) cores.now)) }
-    ensures size { IfOk result (λ more. AreLonger (rows_of change.now.after.now) (rows_of change.now.before.now) change.now.name.now change.now.new.now →
-        length more ≤ sum_by (more_size (rows_of change.now.before.now) change.now.name.now change.now.new.now) cores.now) }
+    requires fits { (schemas : Schemas) × All (IsFitCore schemas) cores.now × HasNew schemas (T.named change.now.over.now) change.now.name.now change.now.new.now }
+    ensures { IfOk result (λ more. (d : ℤ) → IsRefDay d →
+        rows_on more d ≡ set_of row_order (flat_map (more_rows d (T.named change.now.over.now) change.now.name.now change.now.new.now) cores.now)) }
 {
     let mut more = Rel::new(alloc);
     'cores: for core in cores {

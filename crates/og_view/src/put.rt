@@ -2,7 +2,7 @@
 ghost use Rattle.std.specs.Prelude.{◌≡◌, ℕ, List, Some};
 ghost use Rattle.og_value.specs.declared.schema.Column.{Column};
 ghost use Rattle.og_query.specs.Fits.{schemas_of};
-ghost use Rattle.og_db.specs.Database.{HaveKinds, IsTableOf, Relation};
+ghost use Rattle.og_db.specs.Database.{HaveKinds, Relation};
 ghost use Rattle.og_db.specs.Held.{known_of, put_at, rows_of};
 ghost use Rattle.og_view.specs.Bases.{IsPut};
 
@@ -38,19 +38,6 @@ impl<'b> Put<'b> {
         requires { IsPut bases.now name.now rel.now }
         ensures { result ≡ put_at name.now rel.now bases.now }
     {
-        Put { bases, name, rel }
-    }
-
-    // The bases as they are.
-    pub(crate) fn own(bases: &'b Db, name: &'b Name) -> Put<'b>
-        requires { (columns : List Column) × IsTableOf columns bases.now name.now }
-        ensures { result ≡ bases.now }
-    {
-        bases.rows_fit();
-        bases.names_differ();
-        let Some(rel) = bases.rel(name.bytes()) else {
-            unreachable!();
-        };
         Put { bases, name, rel }
     }
 

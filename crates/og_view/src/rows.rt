@@ -1,7 +1,8 @@
-//! Rows that are lent.
+//! Rows that are lent, and a test that none passes.
 ghost use Rattle.std.specs.Prelude.{◌≡◌, IfOk};
 
 use og_base::{NoMemory, OngoingRow};
+use og_rel::RowTest;
 use og_value::Row;
 use std::alloc::Global;
 
@@ -14,4 +15,19 @@ pub(crate) fn copy_rows(alloc: Global, rows: &[Row]) -> Result<Vec<Row>, NoMemor
         copies.push(row.copy(alloc)?)?;
     }
     Ok(copies)
+}
+
+// The test that no row passes.
+#[derive(Clone, Copy, Debug)]
+pub(crate) struct NoRow;
+
+impl RowTest<Row> for NoRow {
+    ghost use Rattle.std.specs.Prelude.{false};
+
+    ghost passes = { λ test row. false };
+
+    fn test(&self, row: &Row) -> bool {
+        let _ = row;
+        false
+    }
 }

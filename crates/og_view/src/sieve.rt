@@ -3,10 +3,9 @@ ghost use Rattle.std.specs.Prelude.{◌≡◌, ◌++◌, ℤ, true, [], IsTrue, 
 ghost use Rattle.std.specs.List.{All};
 ghost use Rattle.og_value.specs.Values.{value_at};
 ghost use Rattle.og_value.specs.declared.value.FixedValue.{FixedValue};
-ghost use Rattle.og_rel.specs.Relations.{stored};
-ghost use Rattle.og_view.specs.Sieves.{is_among, row_meets, row_passes, sifted, tests_from};
+ghost use Rattle.og_view.specs.Sieves.{is_among, row_meets, row_passes, tests_from};
 
-use og_base::{NoMemory, OngoingRow, RtSet};
+use og_base::NoMemory;
 use og_rel::{Rel, RowTest};
 use og_value::{Row, Text, Value};
 use std::alloc::Global;
@@ -156,34 +155,6 @@ impl<'k> Sieve<'k> {
             tests.push(Test { column, keys })?;
         }
         Ok(Sieve { tests })
-    }
-
-    // The rows of the relation that pass.
-    pub(crate) fn sifted(&self, alloc: Global, rel: &Rel<Row>) -> Result<Rel<Row>, NoMemory>
-        ensures { IfOk result (λ kept. kept ≡ sifted self.now rel.now) }
-    {
-        rel.some_days();
-        let mut kept = Rel::new(alloc);
-        'rows: for i in 0..rel.len() {
-            self.keep(alloc, rel.row(i), rel.days(i), &mut kept)?;
-        }
-        Ok(kept)
-    }
-
-    // Adds the row with its days, where it passes.
-    fn keep(
-        &self,
-        alloc: Global,
-        row: &Row,
-        days: &RtSet,
-        kept: &mut Rel<Row>,
-    ) -> Result<(), NoMemory>
-        ensures { OnOk result (kept.new ≡ kept.old ++ sifted self.now (stored row.now days.now)) }
-    {
-        if !self.test(row) {
-            return Ok(());
-        }
-        kept.push(row.copy(alloc)?, days.copy()?)
     }
 }
 

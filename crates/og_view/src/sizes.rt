@@ -6,29 +6,19 @@ ghost use Rattle.og_exec.specs.Tables.{sizes_of};
 ghost use Rattle.og_db.specs.Held.{rows_of};
 ghost use Rattle.og_view.specs.Sieves.{row_passes};
 
-use crate::put::Put;
+use crate::instead::Instead;
 use crate::sieve::Sieve;
 use og_query::{Core, Query};
-use og_rel::{Rel, Tables};
-use og_value::{Name, Row, SetOp};
-
-// The number of rows of the base of that name, 0 where there is none.
-fn rows_in(bases: &Put<'_>, name: &Name) -> usize
-    ensures { result ≡ sizes_of (rows_of bases.now) name.now }
-{
-    match bases.rel(name.bytes()) {
-        Some(rel) => rel.len(),
-        None => 0,
-    }
-}
+use og_rel::{Rel, RowTest};
+use og_value::{Row, SetOp};
 
 // The size of the core over the bases, or less where that is a number too great.
-fn core_size(core: &Core, bases: &Put<'_>) -> usize
+fn core_size<T: RowTest<Row>>(core: &Core, bases: &Instead<'_, T>) -> usize
     ensures { result ≤ spec.core_size (sizes_of (rows_of bases.now)) core.now }
 {
     let mut size: usize = 1;
     'tables: for table in core.tables.as_slice() {
-        size = size.saturating_mul(rows_in(bases, &table.name));
+        size = size.saturating_mul(bases.rows_in(&table.name));
     }
     size
 }
@@ -44,7 +34,7 @@ fn combined_size(op: SetOp, left: usize, right: usize) -> usize
 }
 
 // The size of the query over the bases, or less where that is a number too great.
-pub(crate) fn size_of(query: &Query, bases: &Put<'_>) -> usize
+pub(crate) fn size_of<T: RowTest<Row>>(query: &Query, bases: &Instead<'_, T>) -> usize
     ensures { result ≤ spec.query_size (sizes_of (rows_of bases.now)) query.now }
 {
     let mut size = core_size(&query.first, bases);

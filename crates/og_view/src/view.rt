@@ -4,21 +4,21 @@ ghost use Rattle.std.specs.List.{All, flat_map};
 ghost use Rattle.og_base.specs.Calendar.{IsRefDay};
 ghost use Rattle.og_base.specs.Set.{set_of};
 ghost use Rattle.og_par.specs.Limits.{max_workers};
-ghost use Rattle.og_rel.specs.Relations.{others, relation_at};
+ghost use Rattle.og_rel.specs.Relations.{instead, relation_at};
 ghost use Rattle.og_value.specs.Order.{row_order};
 ghost use Rattle.og_value.specs.Values.{row_at};
 ghost use Rattle.og_value.specs.declared.schema.Column.{Column};
-ghost use Rattle.og_query.specs.Fits.{IsFitAssign, IsFitQuery, IsFitRow, tables_of};
+ghost use Rattle.og_query.specs.Fits.{IsFitAssign, IsFitQuery, IsFitRow, schemas_of, tables_of};
 ghost use Rattle.og_query.specs.Queries.{ordinary_query};
 ghost use Rattle.og_query.specs.Sizes.{query_size};
 ghost use Rattle.og_query.specs.declared.typed.Typed.TheVariants as t;
 ghost use Rattle.og_exec.specs.Tables.{rows_at, rows_on, sizes_of};
 ghost use Rattle.og_db.specs.Database.{HaveKinds, IsTableOf, names_at};
-ghost use Rattle.og_db.specs.Held.{changed_at, known_of, put_at, rows_of};
+ghost use Rattle.og_db.specs.Held.{known_of, rows_of};
 ghost use Rattle.og_db.specs.Live.{uses};
 ghost use Rattle.og_db.specs.Runs.{AreWithin, sizes_at};
 ghost use Rattle.og_db.specs.Statements.{names_after, name_sizes_after};
-ghost use Rattle.og_view.specs.Bases.{AreHeld};
+ghost use Rattle.og_view.specs.Bases.{AreHeld, IsPut, instead_at};
 ghost use Rattle.og_view.specs.Placed.{AreGrown, cores_of, more_rows};
 ghost use Rattle.og_view.specs.Sieves.{passes, row_passes};
 ghost use Rattle.og_view.specs.Views.{IsLiveQuery};
@@ -26,19 +26,20 @@ ghost use Rattle.og_view.specs.Views.{IsLiveQuery};
 use crate::again::again_of;
 use crate::asked::Asked;
 use crate::bases::bases_of;
-use crate::change::Change;
-use crate::gone::{changed_rows, gone_of};
+use crate::change::{Change, Changed};
+use crate::instead::{Instead, made_whole};
 use crate::placed::{Placed, more_of, placed_cores};
 use crate::put::Put;
-use crate::rows::copy_rows;
+use crate::rows::{NoRow, copy_rows};
 use crate::sieve::{Sieve, keys_of};
 use crate::sizes::{has_room, size_of};
-use crate::used;
+use crate::used::{self, names_once};
 use og_base::NoMemory;
-use og_db::{Db, fitting_rows, on_all_days};
+use og_db::{Db, Touched, assigned_of, changed_of, fitting_rows, gone_of, left_of, on_all_days};
+use og_expr::bounds_hold;
 use og_par::Gate;
 use og_query::{Assign, Cond, Query};
-use og_rel::{Rel, Tables};
+use og_rel::{Rel, RowTest, Tables};
 use og_value::{Catalog, Name, Row};
 use std::alloc::Global;
 use std::marker::Model;
@@ -164,9 +165,10 @@ impl View {
         ensures size { OnOk result (AreWithin (sizes_at self.new.bases) (name_sizes_after (sizes_at self.old.bases) (t.Insert name.now rows.now))) }
         ensures refused { OnErr result (self.new ≡ self.old) }
     {
-        let after = self.bases.inserted(name, copy_rows(alloc, rows)?)?;
+        self.kept();
         let new = on_all_days(alloc, copy_rows(alloc, rows)?)?;
-        self.grow(rt, alloc, name, after, new, workers, gate)
+        let more = self.more_by(rt, alloc, name, &NoRow, &new, &new, workers, gate)?;
+        self.extend(rt, alloc, name, &NoRow, new, more, workers, gate)
     }
 
     /// Takes the rows of which the condition holds from the base of that name, each on the days on which
@@ -191,9 +193,13 @@ impl View {
         ensures size { OnOk result (AreWithin (sizes_at self.new.bases) (name_sizes_after (sizes_at self.old.bases) (t.Delete name.now cond.now))) }
         ensures refused { OnErr result (self.new ≡ self.old) }
     {
-        let left = self.bases.deleted(name, cond)?;
-        let gone = gone_of(alloc, &self.bases, name, cond)?;
-        self.shrink(rt, alloc, name, left, gone, workers, gate)
+        self.bases.names_differ();
+        bounds_hold();
+        let test = Touched::new(alloc, cond);
+        let rows = self.bases.touched(name, &test)?;
+        let left = left_of(alloc, &rows, cond)?;
+        let gone = gone_of(alloc, &rows, cond)?;
+        self.shrink(rt, alloc, name, &test, left, gone, workers, gate)
     }
 
     /// Puts the assigned rows in the place of the rows of which the condition holds in the base of that
@@ -219,142 +225,174 @@ impl View {
         ensures size { OnOk result (AreWithin (sizes_at self.new.bases) (name_sizes_after (sizes_at self.old.bases) (t.Update name.now sets.now cond.now))) }
         ensures refused { OnErr result (self.new ≡ self.old) }
     {
-        let left = self.bases.deleted(name, cond)?;
-        let after = self.bases.updated(name, sets, cond)?;
-        let gone = gone_of(alloc, &self.bases, name, cond)?;
-        let new = changed_rows(alloc, &gone, sets)?;
-        self.replace(rt, alloc, name, left, after, gone, new, workers, gate)
-    }
-
-    // Puts in place what is left of a base. Where the cores had rows by those that are taken, the rows of the
-    // result that are like one of these give place to those that the cores still have.
-    fn shrink<H: Threads + Sync, G: Gate + Sync>(
-        &mut self,
-        rt: &H,
-        alloc: Global,
-        name: &Name,
-        left: Rel<Row>,
-        gone: Rel<Row>,
-        workers: usize,
-        gate: &G,
-    ) -> Result<(), NoMemory>
-        requires least { 1 ≤ workers }
-        requires most { workers ≤ max_workers }
-        requires before { AreGrown (rows_of self.old.bases) (rows_of (put_at name.now left self.old.bases)) name.now gone }
-        requires table { (columns : List Column) × IsTableOf columns self.old.bases name.now × HaveKinds columns left × HaveKinds columns gone }
-        ensures query { OnOk result (self.new.query ≡ self.old.query) }
-        ensures bases { OnOk result (self.new.bases ≡ put_at name.now left self.old.bases) }
-        ensures refused { OnErr result (self.new ≡ self.old) }
-    {
-        self.kept();
-        let lost = self.lost_of(rt, alloc, name, &left, &gone, workers, gate)?;
-        if lost.len() == 0 {
-            return self.extend(rt, alloc, name, left, Rel::new(alloc), workers, gate);
-        }
-        let keys = keys_of(alloc, &lost)?;
-        let sieve = Sieve::of(alloc, keys.as_slice())?;
-        let again = self.again(rt, alloc, name, &left, &sieve, workers, gate)?;
-        self.exchange(rt, alloc, name, left, &sieve, again, workers, gate)
-    }
-
-    // The same with a base that has new rows for those that are taken; what these add is appended.
-    fn replace<H: Threads + Sync, G: Gate + Sync>(
-        &mut self,
-        rt: &H,
-        alloc: Global,
-        name: &Name,
-        left: Rel<Row>,
-        after: Rel<Row>,
-        gone: Rel<Row>,
-        new: Rel<Row>,
-        workers: usize,
-        gate: &G,
-    ) -> Result<(), NoMemory>
-        requires least { 1 ≤ workers }
-        requires most { workers ≤ max_workers }
-        requires before { AreGrown (rows_of self.old.bases) (rows_of (put_at name.now left self.old.bases)) name.now gone }
-        requires after { AreGrown (rows_of (put_at name.now after self.old.bases)) (rows_of (put_at name.now left self.old.bases)) name.now new }
-        requires table { (columns : List Column) × IsTableOf columns self.old.bases name.now
-            × HaveKinds columns left × HaveKinds columns after × HaveKinds columns gone × HaveKinds columns new }
-        ensures query { OnOk result (self.new.query ≡ self.old.query) }
-        ensures bases { OnOk result (self.new.bases ≡ put_at name.now after self.old.bases) }
-        ensures refused { OnErr result (self.new ≡ self.old) }
-    {
-        self.kept();
-        let lost = self.lost_of(rt, alloc, name, &left, &gone, workers, gate)?;
-        let more = self.more_by(rt, alloc, name, &left, &after, &new, workers, gate)?;
-        if lost.len() == 0 {
-            return self.extend(rt, alloc, name, after, more, workers, gate);
-        }
-        let keys = keys_of(alloc, &lost)?;
-        let sieve = Sieve::of(alloc, keys.as_slice())?;
-        let mut again = self.again(rt, alloc, name, &left, &sieve, workers, gate)?;
-        again.append(more)?;
-        self.exchange(rt, alloc, name, after, &sieve, again, workers, gate)
-    }
-
-    // The rows that the cores have by the rows that are taken from a base.
-    fn lost_of<H: Threads + Sync, G: Gate + Sync>(
-        &self,
-        rt: &H,
-        alloc: Global,
-        name: &Name,
-        left: &Rel<Row>,
-        gone: &Rel<Row>,
-        workers: usize,
-        gate: &G,
-    ) -> Result<Rel<Row>, NoMemory>
-        requires least { 1 ≤ workers }
-        requires most { workers ≤ max_workers }
-        requires before { AreGrown (rows_of self.now.bases) (rows_of (put_at name.now left.now self.now.bases)) name.now gone.now }
-        requires table { (columns : List Column) × IsTableOf columns self.now.bases name.now × HaveKinds columns left.now × HaveKinds columns gone.now }
-        ensures { IfOk result (λ lost. (d : ℤ) → IsRefDay d →
-            rows_on lost d ≡ set_of row_order (flat_map (more_rows d (rows_of (put_at name.now left.now self.now.bases)) name.now gone.now) (cores_of self.now.query))) }
-    {
-        let change = Change {
-            name,
-            before: &Put::new(&self.bases, name, left),
-            after: &Put::own(&self.bases, name),
-            new: gone,
+        self.bases.names_differ();
+        bounds_hold();
+        let test = Touched::new(alloc, cond);
+        let rows = self.bases.touched(name, &test)?;
+        let left = left_of(alloc, &rows, cond)?;
+        let changed = changed_of(alloc, &rows, sets, cond)?;
+        let gone = gone_of(alloc, &rows, cond)?;
+        let new = assigned_of(alloc, &gone, sets)?;
+        let parts = Changed {
+            left: &left,
+            gone: &gone,
+            new: &new,
         };
-        more_of(rt, alloc, self.cores.as_slice(), &change, workers, gate)
+        self.replace(rt, alloc, name, &test, changed, &parts, workers, gate)
     }
 
-    // The rows that the cores have more by new rows of a base.
-    fn more_by<H: Threads + Sync, G: Gate + Sync>(
+    // Puts what is left of rows of a base in the place of those that pass a test. Where the cores had rows by
+    // those that are gone, the rows of the result that are like one of these give place to those that the cores
+    // still have.
+    fn shrink<H: Threads + Sync, T: RowTest<Row>, G: Gate + Sync>(
+        &mut self,
+        rt: &H,
+        alloc: Global,
+        name: &Name,
+        test: &T,
+        left: Rel<Row>,
+        gone: Rel<Row>,
+        workers: usize,
+        gate: &G,
+    ) -> Result<(), NoMemory>
+        requires least { 1 ≤ workers }
+        requires most { workers ≤ max_workers }
+        requires gone { IsPut self.old.bases name.now gone }
+        requires left { IsPut self.old.bases name.now left }
+        requires shrinks { AreGrown (rows_of self.old.bases) (rows_of (instead_at name.now (T.passes test.now) left self.old.bases)) name.now gone }
+        ensures query { OnOk result (self.new.query ≡ self.old.query) }
+        ensures bases { OnOk result (self.new.bases ≡ instead_at name.now (T.passes test.now) left self.old.bases) }
+        ensures refused { OnErr result (self.new ≡ self.old) }
+    {
+        self.kept();
+        let lost = self.had_by(rt, alloc, name, &gone, workers, gate)?;
+        if lost.len() == 0 {
+            let none = Rel::new(alloc);
+            return self.extend(rt, alloc, name, test, left, none, workers, gate);
+        }
+        let keys = keys_of(alloc, &lost)?;
+        let sieve = Sieve::of(alloc, keys.as_slice())?;
+        let again = self.again(rt, alloc, name, test, &left, &sieve, workers, gate)?;
+        self.exchange(rt, alloc, name, test, left, &sieve, again, workers, gate)
+    }
+
+    // The same with rows in the place of those that pass which are what is left and what new ones are made of
+    // those that are gone; what the cores have by the new ones is appended.
+    fn replace<H: Threads + Sync, T: RowTest<Row>, G: Gate + Sync>(
+        &mut self,
+        rt: &H,
+        alloc: Global,
+        name: &Name,
+        test: &T,
+        changed: Rel<Row>,
+        parts: &Changed<'_>,
+        workers: usize,
+        gate: &G,
+    ) -> Result<(), NoMemory>
+        requires least { 1 ≤ workers }
+        requires most { workers ≤ max_workers }
+        requires changed { IsPut self.old.bases name.now changed }
+        requires left { IsPut self.old.bases name.now parts.now.left.now }
+        requires gone { IsPut self.old.bases name.now parts.now.gone.now }
+        requires new { IsPut self.old.bases name.now parts.now.new.now }
+        requires shrinks { AreGrown (rows_of self.old.bases) (rows_of (instead_at name.now (T.passes test.now) parts.now.left.now self.old.bases)) name.now parts.now.gone.now }
+        requires grows { AreGrown (rows_of (instead_at name.now (T.passes test.now) changed self.old.bases))
+            (rows_of (instead_at name.now (T.passes test.now) parts.now.left.now self.old.bases)) name.now parts.now.new.now }
+        ensures query { OnOk result (self.new.query ≡ self.old.query) }
+        ensures bases { OnOk result (self.new.bases ≡ instead_at name.now (T.passes test.now) changed self.old.bases) }
+        ensures refused { OnErr result (self.new ≡ self.old) }
+    {
+        self.kept();
+        let lost = self.had_by(rt, alloc, name, parts.gone, workers, gate)?;
+        let more = self.more_by(rt, alloc, name, test, &changed, parts.new, workers, gate)?;
+        if lost.len() == 0 {
+            return self.extend(rt, alloc, name, test, changed, more, workers, gate);
+        }
+        let keys = keys_of(alloc, &lost)?;
+        let sieve = Sieve::of(alloc, keys.as_slice())?;
+        let mut again = self.again(rt, alloc, name, test, parts.left, &sieve, workers, gate)?;
+        again.append(more)?;
+        self.exchange(rt, alloc, name, test, changed, &sieve, again, workers, gate)
+    }
+
+    // The rows that the cores have by new rows of a base, over tables in which it has them.
+    fn more_over<H: Threads + Sync, A: Tables<Row>, G: Gate + Sync>(
         &self,
         rt: &H,
         alloc: Global,
         name: &Name,
-        before: &Rel<Row>,
-        after: &Rel<Row>,
+        over: &A,
         new: &Rel<Row>,
         workers: usize,
         gate: &G,
     ) -> Result<Rel<Row>, NoMemory>
         requires least { 1 ≤ workers }
         requires most { workers ≤ max_workers }
-        requires after { AreGrown (rows_of (put_at name.now after.now self.now.bases)) (rows_of (put_at name.now before.now self.now.bases)) name.now new.now }
-        requires table { (columns : List Column) × IsTableOf columns self.now.bases name.now
-            × HaveKinds columns before.now × HaveKinds columns after.now × HaveKinds columns new.now }
+        requires held { AreHeld (schemas_of (known_of self.now.bases)) (A.named over.now) }
+        requires table { IsPut self.now.bases name.now new.now }
         ensures { IfOk result (λ more. (d : ℤ) → IsRefDay d →
-            rows_on more d ≡ set_of row_order (flat_map (more_rows d (rows_of (put_at name.now before.now self.now.bases)) name.now new.now) (cores_of self.now.query))) }
+            rows_on more d ≡ set_of row_order (flat_map (more_rows d (A.named over.now) name.now new.now) (cores_of self.now.query))) }
     {
-        let change = Change {
-            name,
-            before: &Put::new(&self.bases, name, before),
-            after: &Put::new(&self.bases, name, after),
-            new,
-        };
+        let change = Change { name, over, new };
         more_of(rt, alloc, self.cores.as_slice(), &change, workers, gate)
     }
 
-    // The rows that the cores have over what is left of a base, of those that pass the sieve.
-    fn again<H: Threads + Sync, G: Gate + Sync>(
+    // The same over the bases as they are.
+    fn had_by<H: Threads + Sync, G: Gate + Sync>(
         &self,
         rt: &H,
         alloc: Global,
         name: &Name,
+        rows: &Rel<Row>,
+        workers: usize,
+        gate: &G,
+    ) -> Result<Rel<Row>, NoMemory>
+        requires least { 1 ≤ workers }
+        requires most { workers ≤ max_workers }
+        requires table { IsPut self.now.bases name.now rows.now }
+        ensures { IfOk result (λ had. (d : ℤ) → IsRefDay d →
+            rows_on had d ≡ set_of row_order (flat_map (more_rows d (rows_of self.now.bases) name.now rows.now) (cores_of self.now.query))) }
+    {
+        self.bases.rows_fit();
+        self.more_over(rt, alloc, name, &self.bases, rows, workers, gate)
+    }
+
+    // The same over the bases, where in that base rows stand in the place of those that pass a test. Where no
+    // core has the base at two places, what it has itself is not asked for, and it is not made whole.
+    fn more_by<H: Threads + Sync, T: RowTest<Row>, G: Gate + Sync>(
+        &self,
+        rt: &H,
+        alloc: Global,
+        name: &Name,
+        test: &T,
+        changed: &Rel<Row>,
+        new: &Rel<Row>,
+        workers: usize,
+        gate: &G,
+    ) -> Result<Rel<Row>, NoMemory>
+        requires least { 1 ≤ workers }
+        requires most { workers ≤ max_workers }
+        requires changed { IsPut self.now.bases name.now changed.now }
+        requires table { IsPut self.now.bases name.now new.now }
+        ensures { IfOk result (λ more. (d : ℤ) → IsRefDay d → rows_on more d
+            ≡ set_of row_order (flat_map (more_rows d (rows_of (instead_at name.now (T.passes test.now) changed.now self.now.bases)) name.now new.now) (cores_of self.now.query))) }
+    {
+        if names_once(self.asked.query(), name) {
+            return self.had_by(rt, alloc, name, new, workers, gate);
+        }
+        let rel = made_whole(&self.bases, name, test, changed)?;
+        let over = Put::new(&self.bases, name, &rel);
+        over.rows_fit();
+        self.more_over(rt, alloc, name, &over, new, workers, gate)
+    }
+
+    // The rows that the cores have over what is left of a base, of those that pass the sieve.
+    fn again<H: Threads + Sync, T: RowTest<Row>, G: Gate + Sync>(
+        &self,
+        rt: &H,
+        alloc: Global,
+        name: &Name,
+        test: &T,
         left: &Rel<Row>,
         sieve: &Sieve<'_>,
         workers: usize,
@@ -362,11 +400,11 @@ impl View {
     ) -> Result<Rel<Row>, NoMemory>
         requires least { 1 ≤ workers }
         requires most { workers ≤ max_workers }
-        requires table { (columns : List Column) × IsTableOf columns self.now.bases name.now × HaveKinds columns left.now }
+        requires left { IsPut self.now.bases name.now left.now }
         ensures { IfOk result (λ again. (d : ℤ) → IsRefDay d →
-            rows_on again d ≡ filter (passes sieve.now) (ordinary_query d (rows_at (rows_of (put_at name.now left.now self.now.bases)) d) self.now.query)) }
+            rows_on again d ≡ filter (passes sieve.now) (ordinary_query d (rows_at (rows_of (instead_at name.now (T.passes test.now) left.now self.now.bases)) d) self.now.query)) }
     {
-        let over = Put::new(&self.bases, name, left);
+        let over = Instead::new(&self.bases, name, test, left);
         over.rows_fit();
         again_of(
             rt,
@@ -379,15 +417,16 @@ impl View {
         )
     }
 
-    // Puts a base in place over which the answer is the rows of the result that do not pass the sieve, with
-    // more rows, and puts these in the place of those that do. Where that came to more rows than the size of
+    // Puts rows of a base in the place of those that pass a test, and more rows in the place of the rows of the
+    // result that pass the sieve, where that is the answer then. Where that came to more rows than the size of
     // the query, it is asked anew.
-    fn exchange<H: Threads + Sync, G: Gate + Sync>(
+    fn exchange<H: Threads + Sync, T: RowTest<Row>, G: Gate + Sync>(
         &mut self,
         rt: &H,
         alloc: Global,
         name: &Name,
-        rel: Rel<Row>,
+        test: &T,
+        changed: Rel<Row>,
         sieve: &Sieve<'_>,
         more: Rel<Row>,
         workers: usize,
@@ -395,112 +434,88 @@ impl View {
     ) -> Result<(), NoMemory>
         requires least { 1 ≤ workers }
         requires most { workers ≤ max_workers }
-        requires table { (columns : List Column) × IsTableOf columns self.old.bases name.now × HaveKinds columns rel }
+        requires changed { IsPut self.old.bases name.now changed }
         requires law { (d : ℤ) → IsRefDay d →
-            ordinary_query d (rows_at (rows_of (put_at name.now rel self.old.bases)) d) self.old.query ≡ rows_on (others (row_passes sieve.now) self.old.result ++ more) d }
+            ordinary_query d (rows_at (rows_of (instead_at name.now (T.passes test.now) changed self.old.bases)) d) self.old.query ≡ rows_on (instead (row_passes sieve.now) more self.old.result) d }
         ensures query { OnOk result (self.new.query ≡ self.old.query) }
-        ensures bases { OnOk result (self.new.bases ≡ put_at name.now rel self.old.bases) }
+        ensures bases { OnOk result (self.new.bases ≡ instead_at name.now (T.passes test.now) changed self.old.bases) }
         ensures refused { OnErr result (self.new ≡ self.old) }
     {
-        let bases = Put::new(&self.bases, name, &rel);
-        let most = size_of(self.asked.query(), &bases);
+        let over = Instead::new(&self.bases, name, test, &changed);
+        let most = size_of(self.asked.query(), &over);
         if !has_room(&self.result, sieve, more.len(), most) {
-            return self.renew(rt, alloc, name, rel, workers, gate);
+            return self.renew(rt, alloc, name, test, changed, workers, gate);
         }
-        bases.rows_fit();
+        over.rows_fit();
         fitting_rows();
-        self.result.replace(sieve, more)?;
+        self.bases
+            .replace_with(name, test, changed, &mut self.result, sieve, more)?;
         self.result.some_days();
-        self.bases.put(name, rel);
         Ok(())
     }
 
-    // Puts a base in place over which the answer is the result with more rows, and appends these. Where that
-    // came to more rows than the size of the query, it is asked anew.
-    fn extend<H: Threads + Sync, G: Gate + Sync>(
+    // Puts rows of a base in the place of those that pass a test, and appends more rows to the result, where that
+    // is the answer then. Where that came to more rows than the size of the query, it is asked anew.
+    fn extend<H: Threads + Sync, T: RowTest<Row>, G: Gate + Sync>(
         &mut self,
         rt: &H,
         alloc: Global,
         name: &Name,
-        rel: Rel<Row>,
+        test: &T,
+        changed: Rel<Row>,
         more: Rel<Row>,
         workers: usize,
         gate: &G,
     ) -> Result<(), NoMemory>
         requires least { 1 ≤ workers }
         requires most { workers ≤ max_workers }
-        requires table { (columns : List Column) × IsTableOf columns self.old.bases name.now × HaveKinds columns rel }
+        requires changed { IsPut self.old.bases name.now changed }
         requires law { (d : ℤ) → IsRefDay d →
-            ordinary_query d (rows_at (rows_of (put_at name.now rel self.old.bases)) d) self.old.query ≡ set_of row_order (rows_on self.old.result d ++ rows_on more d) }
+            ordinary_query d (rows_at (rows_of (instead_at name.now (T.passes test.now) changed self.old.bases)) d) self.old.query ≡ set_of row_order (rows_on self.old.result d ++ rows_on more d) }
         ensures query { OnOk result (self.new.query ≡ self.old.query) }
-        ensures bases { OnOk result (self.new.bases ≡ put_at name.now rel self.old.bases) }
+        ensures bases { OnOk result (self.new.bases ≡ instead_at name.now (T.passes test.now) changed self.old.bases) }
         ensures refused { OnErr result (self.new ≡ self.old) }
     {
-        let bases = Put::new(&self.bases, name, &rel);
-        let most = size_of(self.asked.query(), &bases);
-        if self.result.len() > most || more.len() > most - self.result.len() {
-            return self.renew(rt, alloc, name, rel, workers, gate);
+        let over = Instead::new(&self.bases, name, test, &changed);
+        let most = size_of(self.asked.query(), &over);
+        let len = self.result.len();
+        if len > most || more.len() > most - len {
+            return self.renew(rt, alloc, name, test, changed, workers, gate);
         }
-        bases.rows_fit();
+        over.rows_fit();
         fitting_rows();
         self.result.append(more)?;
-        self.result.some_days();
-        self.bases.put(name, rel);
-        Ok(())
+        match self.bases.replace(name, test, changed) {
+            Ok(()) => {
+                self.result.some_days();
+                Ok(())
+            }
+            Err(refusal) => {
+                self.result.truncate(len);
+                Err(refusal)
+            }
+        }
     }
 
-    // Puts a base in place that has new rows, and appends to the result the rows that the cores have more.
-    fn grow<H: Threads + Sync, G: Gate + Sync>(
+    // Puts rows of a base in the place of those that pass a test, and asks the query over the bases with these.
+    fn renew<H: Threads + Sync, T: RowTest<Row>, G: Gate + Sync>(
         &mut self,
         rt: &H,
         alloc: Global,
         name: &Name,
-        after: Rel<Row>,
-        new: Rel<Row>,
+        test: &T,
+        changed: Rel<Row>,
         workers: usize,
         gate: &G,
     ) -> Result<(), NoMemory>
         requires least { 1 ≤ workers }
         requires most { workers ≤ max_workers }
-        requires after { put_at name.now after self.old.bases ≡ changed_at name.now (λ rel. rel ++ new) self.old.bases }
-        requires table { (columns : List Column) × IsTableOf columns self.old.bases name.now × HaveKinds columns after × HaveKinds columns new }
+        requires changed { IsPut self.old.bases name.now changed }
         ensures query { OnOk result (self.new.query ≡ self.old.query) }
-        ensures bases { OnOk result (self.new.bases ≡ put_at name.now after self.old.bases) }
+        ensures bases { OnOk result (self.new.bases ≡ instead_at name.now (T.passes test.now) changed self.old.bases) }
         ensures refused { OnErr result (self.new ≡ self.old) }
     {
-        let grown = Put::new(&self.bases, name, &after);
-        let change = Change {
-            name,
-            before: &Put::own(&self.bases, name),
-            after: &grown,
-            new: &new,
-        };
-        let more = more_of(rt, alloc, self.cores.as_slice(), &change, workers, gate)?;
-        grown.rows_fit();
-        fitting_rows();
-        self.result.append(more)?;
-        self.result.some_days();
-        self.bases.put(name, after);
-        Ok(())
-    }
-
-    // Asks the query over the bases with that one in place, and puts it and the answer in place.
-    fn renew<H: Threads + Sync, G: Gate + Sync>(
-        &mut self,
-        rt: &H,
-        alloc: Global,
-        name: &Name,
-        rel: Rel<Row>,
-        workers: usize,
-        gate: &G,
-    ) -> Result<(), NoMemory>
-        requires least { 1 ≤ workers }
-        requires most { workers ≤ max_workers }
-        requires table { (columns : List Column) × IsTableOf columns self.old.bases name.now × HaveKinds columns rel }
-        ensures query { OnOk result (self.new.query ≡ self.old.query) }
-        ensures bases { OnOk result (self.new.bases ≡ put_at name.now rel self.old.bases) }
-        ensures refused { OnErr result (self.new ≡ self.old) }
-    {
+        let rel = made_whole(&self.bases, name, test, &changed)?;
         let bases = Put::new(&self.bases, name, &rel);
         bases.rows_fit();
         let result = self.asked.answered(rt, alloc, &bases, workers, gate)?;

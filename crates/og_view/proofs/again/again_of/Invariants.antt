@@ -4,8 +4,9 @@ use Rattle.og_base.specs.Calendar.{IsRefDay}
 use Rattle.og_base.specs.Set.{set_of}
 use Rattle.og_value.specs.Order.{row_order}
 use Rattle.og_exec.specs.Tables.{rows_on}
+use Rattle.og_db.specs.Held.{rows_of}
 use Rattle.og_view.specs.Again.{passing_rows}
 use Rattle.og_view.proofs.again.again_of.Given as goal
 
 abbrev pub invariant-cores : goal.invariant-cores
-invariant-cores g l = (d : ℤ) → IsRefDay d → rows_on l.again d ≡ set_of row_order (flat_map (passing_rows d (g.T.Tables.named l.tables) l.sieve) (take l.core-index l.cores))
+invariant-cores g l = (d : ℤ) → IsRefDay d → rows_on l.again d ≡ set_of row_order (flat_map (passing_rows d (rows_of l.over) l.sieve) (take l.core-index l.cores))

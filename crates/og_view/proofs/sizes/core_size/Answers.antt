@@ -12,10 +12,10 @@ lesser : (k m n most : ℕ) → k ≡ min m most → m ≤ n → k ≤ n
 lesser k m n most e h = omega (arith, e, h)
 
 pub tables-init : goal.tables-init
-tables-init c = omega arith
+tables-init g c = omega arith
 
 pub tables-preserved : goal.tables-preserved
-tables-preserved c =
+tables-preserved g c =
     let sizes = sizes_of (rows_of c.args.bases.now) in
     let times : ℕ → From1 → ℕ = λ size table. size * sizes table.name in
     let items = c.as_slice-table-items.result.now in
@@ -28,7 +28,7 @@ tables-preserved c =
     subst (λ n. c.saturating_mul-size.result ≤ n) (sym next) (lesser c.saturating_mul-size.result (c.tables.size * c.rows_in.result) (so_far * sizes table.name) 18446744073709551615 c.saturating_mul-size.ensures most)
 
 pub returns : goal.returns
-returns c =
+returns g c =
     let sizes = sizes_of (rows_of c.args.bases.now) in
     subst (λ tables. c.tables.size ≤ fold (λ size table. size * sizes table.name) 1 tables)
     (take_all c.tables.table-index c.as_slice-table-items.result.now c.tables-test.false ∙ c.as_slice-table-items.ensures) c.tables.invariant

@@ -4,4 +4,4 @@ use Rattle.og_db.specs.Held.{rows_of}
 use Rattle.og_view.proofs.sizes.core_size.Given as goal
 
 abbrev pub invariant-tables : goal.invariant-tables
-invariant-tables l = l.size ≤ fold (λ size table. size * sizes_of (rows_of l.bases) table.name) 1 (take l.table-index l.table-items)
+invariant-tables g l = l.size ≤ fold (λ size table. size * sizes_of (rows_of l.bases) table.name) 1 (take l.table-index l.table-items)

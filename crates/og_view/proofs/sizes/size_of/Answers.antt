@@ -20,10 +20,10 @@ through : (k m n : ℕ) → k ≤ m → m ≤ n → k ≤ n
 through k m n g h = omega (arith, g, h)
 
 pub rests-init : goal.rests-init
-rests-init c = c.core_size-size.ensures
+rests-init g c = c.core_size-size.ensures
 
 pub rests-preserved : goal.rests-preserved
-rests-preserved c =
+rests-preserved g c =
     let sizes = sizes_of (rows_of c.args.bases.now) in
     let more : ℕ → Rest → ℕ = λ size rest. combined_size rest.op size (core_size sizes rest.core) in
     let items = c.as_slice-rest-items.result.now in
@@ -38,7 +38,7 @@ rests-preserved c =
     (together rest.op c.rests.size c.core_size.result so_far (core_size sizes rest.core) c.rests.invariant c.core_size.ensures))
 
 pub returns : goal.returns
-returns c =
+returns g c =
     let sizes = sizes_of (rows_of c.args.bases.now) in
     subst (λ rests. c.rests.size ≤ fold (λ size rest. combined_size rest.op size (core_size sizes rest.core)) (core_size sizes c.args.query.now.first) rests)
     (take_all c.rests.rest-index c.as_slice-rest-items.result.now c.rests-test.false ∙ c.as_slice-rest-items.ensures) c.rests.invariant

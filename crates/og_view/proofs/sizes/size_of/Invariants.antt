@@ -5,5 +5,5 @@ use Rattle.og_db.specs.Held.{rows_of}
 use Rattle.og_view.proofs.sizes.size_of.Given as goal
 
 abbrev pub invariant-rests : goal.invariant-rests
-invariant-rests l =
+invariant-rests g l =
     l.size ≤ fold (λ size rest. combined_size rest.op size (core_size (sizes_of (rows_of l.bases)) rest.core)) (core_size (sizes_of (rows_of l.bases)) l.query.first) (take l.rest-index l.rest-items)

@@ -1,29 +1,51 @@
-use Rattle.std.proofs.Common.{◌≡◌, ℤ, filter, not, ap, subst, ◌∙◌}
+use Rattle.std.proofs.Common.{ap, map, sym, subst, ◌∙◌}
+use Rattle.std.specs.List.{IsDistinct}
+use Rattle.std.specs.Str.{bytes_eq}
 use Rattle.std.proofs.lemmas.Result.{on_ok_weaker}
-use Rattle.og_base.specs.Calendar.{IsRefDay}
-use Rattle.og_query.specs.Conditions.{truth}
-use Rattle.og_exec.specs.Tables.{rows_at}
+use Rattle.og_expr.specs.Bounds.{may_hold}
+use Rattle.og_query.specs.declared.typed.Typed.TheVariants as typed
+use Rattle.og_rel.specs.Relations.{instead}
 use Rattle.og_db.specs.Database.{IsTableOf, names_at}
-use Rattle.og_db.specs.Held.{changed_at, known_of, put_at, rows_of}
-use Rattle.og_view.proofs.TakenLemmas.{grown-taken}
-use Rattle.og_view.proofs.PutLemmas.{known_put}
+use Rattle.og_db.specs.Held.{known_of, rows_of}
+use Rattle.og_db.specs.Runs.{AreWithin, sizes_at}
+use Rattle.og_db.specs.Statements.{name_sizes_after}
+use Rattle.og_view.proofs.ChangedLemmas.{known_changed}
+use Rattle.og_view.proofs.TouchedLemmas.{left-names, left-sizes, shrinks}
 use Rattle.og_view.proofs.view.View.delete.Goals as goal
 
-pub shrink-requires-clause-before : goal.shrink-requires-clause-before
-shrink-requires-clause-before g c κs within =
-    let name = c.args.name.now in
-    let cond = c.args.cond.now in
-    let left = c.in_ok-left.left in
-    grown-taken c.args.self.now.bases (put_at name left c.args.self.now.bases) name (λ d row. truth d row cond) c.in_ok-gone.gone
-    (subst (λ v. (d : ℤ) → IsRefDay d → names_at d (put_at name left v.bases) ≡ changed_at name (filter (λ row. not (truth d row cond))) (names_at d v.bases)) c.self.view_is c.in_ok-left.ensures.law)
-    (λ d day. c.in_ok-gone.ensures.law d day ∙ ap (λ v. filter (λ row. truth d row cond) (rows_at (rows_of v.bases) d name)) c.self.view_is)
-
-pub shrink-requires-clause-table : goal.shrink-requires-clause-table
-shrink-requires-clause-table g c κs within =
+pub shrink-requires-clause-gone : goal.shrink-requires-clause-gone
+shrink-requires-clause-gone g c κs within =
     let t = c.requires.table in
     let is : IsTableOf t.0 c.self.inside.bases c.args.name.now = ap (λ v. known_of v.bases c.args.name.now) c.self.view_is ∙ t.1 in
-    (t.0, t.1, c.in_ok-left.ensures.fits t.0 is, c.in_ok-gone.ensures.kinds t.0 is)
+    (t.0, t.1, c.in_ok-gone.ensures.kinds t.0 (c.in_ok-rows.ensures.fits t.0 is))
+
+pub shrink-requires-clause-left : goal.shrink-requires-clause-left
+shrink-requires-clause-left g c κs within =
+    let t = c.requires.table in
+    let is : IsTableOf t.0 c.self.inside.bases c.args.name.now = ap (λ v. known_of v.bases c.args.name.now) c.self.view_is ∙ t.1 in
+    (t.0, t.1, c.in_ok-left.ensures.kinds t.0 (c.in_ok-rows.ensures.fits t.0 is))
+
+pub shrink-requires-clause-shrinks : goal.shrink-requires-clause-shrinks
+shrink-requires-clause-shrinks g c κs within =
+    let t = c.requires.table in
+    shrinks c.args.self.now.bases c.args.name.now t.0 t.1 (subst (λ v. IsDistinct bytes_eq (map (λ h. h.name) v.bases)) c.self.view_is c.names_differ.ensures) (λ row. may_hold row c.new-test.result) c.args.cond.now (λ row out d day. c.bounds_hold.ensures row c.args.cond.now (ap (may_hold row) (sym c.new-test.ensures) ∙ out) d day) c.in_ok-rows.rows (λ rel is. c.in_ok-rows.ensures.rows rel (ap (λ v. rows_of v.bases c.args.name.now) c.self.view_is ∙ is)) c.in_ok-left.left c.in_ok-left.ensures.law c.in_ok-gone.gone c.in_ok-gone.ensures.law
+
+pub returns-clause-law : goal.returns-clause-law
+returns-clause-law g c =
+    let t = c.requires.table in
+    on_ok_weaker c.shrink.result (λ e d day.
+    ap (names_at d) e
+    ∙ left-names c.args.self.now.bases c.args.name.now t.0 t.1 (subst (λ v. IsDistinct bytes_eq (map (λ h. h.name) v.bases)) c.self.view_is c.names_differ.ensures) (λ row. may_hold row c.new-test.result) c.args.cond.now (λ row out d day. c.bounds_hold.ensures row c.args.cond.now (ap (may_hold row) (sym c.new-test.ensures) ∙ out) d day) c.in_ok-rows.rows (λ rel is. c.in_ok-rows.ensures.rows rel (ap (λ v. rows_of v.bases c.args.name.now) c.self.view_is ∙ is)) c.in_ok-left.left c.in_ok-left.ensures.law d day)
+    c.shrink.ensures.bases
 
 pub returns-clause-known : goal.returns-clause-known
 returns-clause-known g c =
-    on_ok_weaker c.shrink.result (λ e other. known_put c.args.self.now.bases c.args.name.now c.in_ok-left.left c.shrink.new.self.bases e other) c.shrink.ensures.bases
+    on_ok_weaker c.shrink.result (λ e other. known_changed c.args.self.now.bases c.args.name.now (instead (λ row. may_hold row c.new-test.result) c.in_ok-left.left) c.shrink.new.self.bases e other) c.shrink.ensures.bases
+
+pub returns-clause-size : goal.returns-clause-size
+returns-clause-size g c =
+    let t = c.requires.table in
+    on_ok_weaker c.shrink.result (λ e.
+    subst (λ db. AreWithin (sizes_at db) (name_sizes_after (sizes_at c.args.self.now.bases) (typed.Delete c.args.name.now c.args.cond.now))) (sym e)
+    (left-sizes c.args.self.now.bases c.args.name.now t.0 t.1 (subst (λ v. IsDistinct bytes_eq (map (λ h. h.name) v.bases)) c.self.view_is c.names_differ.ensures) (λ row. may_hold row c.new-test.result) c.args.cond.now (λ row out d day. c.bounds_hold.ensures row c.args.cond.now (ap (may_hold row) (sym c.new-test.ensures) ∙ out) d day) c.in_ok-rows.rows (λ rel is. c.in_ok-rows.ensures.rows rel (ap (λ v. rows_of v.bases c.args.name.now) c.self.view_is ∙ is)) c.in_ok-left.left c.in_ok-left.ensures.law c.in_ok-left.ensures.size))
+    c.shrink.ensures.bases

@@ -1,46 +1,48 @@
-use Rattle.std.proofs.Common.{◌≡◌, ◌≤◌, ◌++◌, ℤ, length, ap, subst, sym, ◌∙◌, arith}
+use Rattle.std.proofs.Common.{◌≡◌, ◌≤◌, ℤ, length, ap, subst, sym, ◌∙◌, arith}
 use Rattle.std.specs.List.{All}
 use Rattle.std.proofs.lemmas.List.{length-append}
 use Rattle.og_base.specs.Calendar.{IsRefDay}
-use Rattle.og_rel.specs.Relations.{others}
+use Rattle.og_rel.specs.Relations.{instead, others}
 use Rattle.og_query.specs.Fits.{IsFitQuery, tables_of}
 use Rattle.og_query.specs.Queries.{ordinary_query}
 use Rattle.og_query.specs.Sizes.{query_size}
 use Rattle.og_exec.specs.Tables.{rows_at, rows_on, sizes_of}
 use Rattle.og_db.specs.Fits.{IsFitFixed}
-use Rattle.og_db.specs.Held.{known_of, put_at, rows_of}
+use Rattle.og_db.specs.Held.{known_of, rows_of}
+use Rattle.og_view.specs.Bases.{instead_at}
 use Rattle.og_view.specs.Sieves.{row_passes}
 use Rattle.og_view.specs.Views.{IsAnswered, seen}
 use Rattle.og_view.proofs.AnswerLemmas.{answer_fits, tables_fit}
 use Rattle.og_view.proofs.BaseLemmas.{tables_held}
-use Rattle.og_view.proofs.PutLemmas.{fits_put}
+use Rattle.og_view.proofs.ChangedLemmas.{fits_changed}
 use Rattle.og_view.proofs.view.View.exchange.Goals as goal
 
 pub invariant_of-self-2 : goal.invariant_of-self-2
 invariant_of-self-2 g c =
     let query = c.self.inside.asked in
     let name = c.args.name.now in
-    let rel = c.args.rel in
-    let bases = c.new-bases.result in
+    let passes = g.T.RowTest.passes c.args.test.now in
+    let bases = c.new-over.result in
     let result = c.self.inside.result in
     let more = c.args.more in
-    let passes = row_passes c.args.sieve.now in
+    let lets = row_passes c.args.sieve.now in
     let was = c.self.invariant.0 in
     let schemas = tables_of (known_of bases) in
-    let fits : IsFitQuery schemas query = fits_put c.self.inside.bases name rel bases c.new-bases.ensures query was.fits in
-    let law : (d : ℤ) → IsRefDay d → rows_on c.replace.new.self d ≡ ordinary_query d (rows_at (rows_of bases) d) query =
-    λ d day. ap (λ rows. rows_on rows d) c.in_ok-replace.ensures.replaced
-    ∙ sym (subst (λ v. ordinary_query d (rows_at (rows_of (put_at name rel v.bases)) d) v.query ≡ rows_on (others passes v.result ++ more) d) (sym c.self.view_is) (c.requires.law d day))
-    ∙ sym (ap (λ db. ordinary_query d (rows_at (rows_of db) d) query) c.new-bases.ensures) in
-    let most : length (others passes result ++ more) ≤ query_size (sizes_of (rows_of bases)) query =
-    subst (λ q. length (others passes result ++ more) ≤ query_size (sizes_of (rows_of bases)) q) c.query.ensures
-    (omega (arith, length-append (others passes result) more, c.len.ensures, c.has_room.ensures c.if-not-has_room.false, c.size_of-most.ensures)) in (
-      subst (λ db. IsAnswered (seen query db c.replace.new.self)) (c.new-bases.ensures ∙ sym c.put.ensures) (record {
+    let fits : IsFitQuery schemas query = fits_changed c.self.inside.bases name (instead passes c.args.changed) bases c.new-over.ensures query was.fits in
+    let now = c.replace_with.new.other in
+    let law : (d : ℤ) → IsRefDay d → rows_on now d ≡ ordinary_query d (rows_at (rows_of bases) d) query =
+    λ d day. ap (λ rows. rows_on rows d) c.in_ok-replace_with.ensures.other
+    ∙ sym (subst (λ v. ordinary_query d (rows_at (rows_of (instead_at name passes c.args.changed v.bases)) d) v.query ≡ rows_on (instead lets more v.result) d) (sym c.self.view_is) (c.requires.law d day))
+    ∙ sym (ap (λ db. ordinary_query d (rows_at (rows_of db) d) query) c.new-over.ensures) in
+    let most : length (instead lets more result) ≤ query_size (sizes_of (rows_of bases)) query =
+    subst (λ q. length (instead lets more result) ≤ query_size (sizes_of (rows_of bases)) q) c.query.ensures
+    (omega (arith, length-append (others lets result) more, c.len.ensures, c.has_room.ensures c.if-not-has_room.false, c.size_of-most.ensures)) in (
+      subst (λ db. IsAnswered (seen query db now)) (c.new-over.ensures ∙ sym c.in_ok-replace_with.ensures.replaced) (record {
         live = was.live;
         fits = fits;
         law = law;
-        size = subst (λ rows. length rows ≤ query_size (sizes_of (rows_of bases)) query) (sym c.in_ok-replace.ensures.replaced) most;
-        kinds = c.fitting_rows.ensures.on_all_days query.first.schema c.replace.new.self c.some_days.ensures
+        size = subst (λ rows. length rows ≤ query_size (sizes_of (rows_of bases)) query) (sym c.in_ok-replace_with.ensures.other) most;
+        kinds = c.fitting_rows.ensures.on_all_days query.first.schema now c.some_days.ensures
             (λ d day. subst (All (IsFitFixed query.first.schema)) (sym (law d day))
             (answer_fits d (rows_at (rows_of bases) d) schemas query fits (tables_fit schemas (rows_of bases) (tables_held (known_of bases) (rows_of bases) c.rows_fit.ensures.held) c.fitting_rows.ensures.on_a_day d query fits)));
       }),

@@ -1,10 +1,11 @@
-use Rattle.std.proofs.Common.{◌≡◌, ◌≤◌, ◌++◌, ℤ, length, ap, subst, sym, ◌∙◌, arith}
+use Rattle.std.proofs.Common.{◌≡◌, ◌≤◌, ◌++◌, ℤ, OnOk, length, ap, subst, sym, ◌∙◌, arith}
 use Rattle.std.specs.List.{All}
 use Rattle.std.proofs.lemmas.List.{length-append}
 use Rattle.og_base.specs.Calendar.{IsRefDay}
 use Rattle.og_base.specs.Set.{set_of}
 use Rattle.og_value.specs.Order.{row_order}
 use Rattle.og_value.specs.Values.{row_at}
+use Rattle.og_rel.specs.Relations.{instead}
 use Rattle.og_rel.proofs.PresentLemmas.{relation_at-append}
 use Rattle.og_query.specs.Fits.{IsFitQuery, tables_of}
 use Rattle.og_query.specs.Queries.{ordinary_query}
@@ -12,34 +13,35 @@ use Rattle.og_query.specs.Sizes.{query_size}
 use Rattle.og_query.proofs.QueryLemmas.{rows_ordered}
 use Rattle.og_exec.specs.Tables.{rows_at, rows_on, sizes_of}
 use Rattle.og_db.specs.Fits.{IsFitFixed}
-use Rattle.og_db.specs.Held.{known_of, put_at, rows_of}
+use Rattle.og_db.specs.Held.{changed_at, known_of, rows_of}
+use Rattle.og_view.specs.Bases.{instead_at}
 use Rattle.og_view.specs.Views.{IsAnswered, seen}
 use Rattle.og_view.proofs.AnswerLemmas.{answer_fits, tables_fit}
 use Rattle.og_view.proofs.BaseLemmas.{tables_held}
-use Rattle.og_view.proofs.PutLemmas.{fits_put}
+use Rattle.og_view.proofs.ChangedLemmas.{fits_changed}
 use Rattle.og_view.proofs.view.View.extend.Goals as goal
 
-pub invariant_of-self-2 : goal.invariant_of-self-2
-invariant_of-self-2 g c =
+pub invariant_of-self-in-Ok : goal.invariant_of-self-in-Ok
+invariant_of-self-in-Ok g c =
     let query = c.self.inside.asked in
     let old = c.self.inside.bases in
     let name = c.args.name.now in
-    let rel = c.args.rel in
-    let bases = c.new-bases.result in
+    let passes = g.T.RowTest.passes c.args.test.now in
+    let bases = c.new-over.result in
     let result = c.self.inside.result in
     let more = c.args.more in
     let was = c.self.invariant.0 in
     let schemas = tables_of (known_of bases) in
-    let fits : IsFitQuery schemas query = fits_put old name rel bases c.new-bases.ensures query was.fits in
+    let fits : IsFitQuery schemas query = fits_changed old name (instead passes c.args.changed) bases c.new-over.ensures query was.fits in
     let law : (d : ℤ) → IsRefDay d → rows_on c.append.new.self d ≡ ordinary_query d (rows_at (rows_of bases) d) query =
     λ d day. ap (λ rows. rows_on rows d) c.in_ok-append.ensures.appended
     ∙ relation_at-append rows_ordered row_at result more d
-    ∙ sym (subst (λ v. ordinary_query d (rows_at (rows_of (put_at name rel v.bases)) d) v.query ≡ set_of row_order (rows_on v.result d ++ rows_on more d)) (sym c.self.view_is) (c.requires.law d day))
-    ∙ sym (ap (λ db. ordinary_query d (rows_at (rows_of db) d) query) c.new-bases.ensures) in
+    ∙ sym (subst (λ v. ordinary_query d (rows_at (rows_of (instead_at name passes c.args.changed v.bases)) d) v.query ≡ set_of row_order (rows_on v.result d ++ rows_on more d)) (sym c.self.view_is) (c.requires.law d day))
+    ∙ sym (ap (λ db. ordinary_query d (rows_at (rows_of db) d) query) c.new-over.ensures) in
     let most : length (result ++ more) ≤ query_size (sizes_of (rows_of bases)) query =
     subst (λ q. length (result ++ more) ≤ query_size (sizes_of (rows_of bases)) q) c.query.ensures
-    (omega (arith, length-append result more, c.len.ensures, c.len-else-len-most.ensures, c.len-else-len-most-2.ensures, c.if-len-most.false, c.if-len-most-2.false, c.size_of-most.ensures)) in (
-      subst (λ db. IsAnswered (seen query db c.append.new.self)) (c.new-bases.ensures ∙ sym c.put.ensures) (record {
+    (omega (arith, length-append result more, c.len-len.ensures, c.len.ensures, c.if-len-most.false, c.if-len-most-2.false, c.size_of-most.ensures)) in (
+      subst (λ db. IsAnswered (seen query db c.append.new.self)) (c.new-over.ensures ∙ sym (subst (λ r. OnOk r (c.replace.new.self ≡ changed_at name (instead passes c.args.changed) old)) c.in-Ok.is c.replace.ensures.replaced)) (record {
         live = was.live;
         fits = fits;
         law = law;

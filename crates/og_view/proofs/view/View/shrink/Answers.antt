@@ -1,7 +1,7 @@
 use Rattle.std.proofs.Common.{◌≡◌, [], true, ap, refl, subst, sym, ◌∙◌, arith}
 use Rattle.std.specs.List.{All}
 use Rattle.og_exec.specs.Tables.{rows_on}
-use Rattle.og_db.specs.Held.{put_at}
+use Rattle.og_view.specs.Bases.{instead_at}
 use Rattle.og_view.specs.Placed.{cores_of}
 use Rattle.og_view.specs.Sieves.{row_passes, tests_from}
 use Rattle.og_view.proofs.InsertedLemmas.{result-untouched}
@@ -14,18 +14,20 @@ pub extend-requires-clause-law : goal.extend-requires-clause-law
 extend-requires-clause-law g c κs within d day =
     let v = c.args.self.now in
     let name = c.args.name.now in
+    let left = instead_at name (g.T.RowTest.passes c.args.test.now) c.args.left v.bases in
     let none : c.in_ok-lost.lost ≡ [] = no_rows c.in_ok-lost.lost (omega (arith, c.len.ensures, c.if-len-eq0.true)) in
-    let still = result-untouched v.query c.kept.ensures.live (put_at name c.args.left v.bases) v.bases name c.args.gone c.requires.before v.result c.in_ok-lost.lost (cores_of v.query) d day refl none
+    let still = result-untouched v.query c.kept.ensures.live left v.bases name c.args.gone c.requires.shrinks v.result c.in_ok-lost.lost (cores_of v.query) d day refl none
     (c.in_ok-lost.ensures d day) (c.kept.ensures.law d day) in
-    sym still ∙ nothing_added v.result d (rows_on c.new.result d) (ap (λ rel. rows_on rel d) c.new.ensures)
+    sym still ∙ nothing_added v.result d (rows_on c.new-none.result d) (ap (λ rel. rows_on rel d) c.new-none.ensures)
 
 pub exchange-requires-clause-law : goal.exchange-requires-clause-law
 exchange-requires-clause-law g c κs within d day =
     let v = c.args.self.now in
     let name = c.args.name.now in
+    let left = instead_at name (g.T.RowTest.passes c.args.test.now) c.args.left v.bases in
     let lost = c.in_ok-lost.lost in
     let sieve = c.in_ok-sieve.sieve in
     let pass : All (λ p. row_passes sieve p.0 ≡ true) lost =
     subst (λ tests. All (λ p. row_passes tests p.0 ≡ true) lost) (sym (c.in_ok-sieve.ensures ∙ ap (tests_from 0) c.as_slice.ensures.value)) c.in_ok-keys.ensures in
-    answer-left v.query c.kept.ensures.live v.bases (put_at name c.args.left v.bases) name c.args.gone c.requires.before sieve v.result lost c.in_ok-again.again pass d day
+    answer-left v.query c.kept.ensures.live v.bases left name c.args.gone c.requires.shrinks sieve v.result lost c.in_ok-again.again pass d day
     (c.kept.ensures.law d day) (c.in_ok-lost.ensures d day) (c.in_ok-again.ensures d day)
