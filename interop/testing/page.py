@@ -1,0 +1,148 @@
+"""The drawings, and the page in a real browser."""
+from __future__ import annotations
+
+import glob
+import html
+import json
+import os
+import re
+import shutil
+import subprocess
+import sys
+import tempfile
+import xml.etree.ElementTree
+from typing import Any, Optional
+
+import answers
+from answers import ongq
+
+DAYS = 20
+
+# One row of each form of a period and a date, of which some are there on some days alone.
+ALL_FORMS = """CREATE TABLE x (id INT, name TEXT, due DATE, vt PERIOD);
+INSERT INTO x VALUES
+    (1, 'b', ONGOING 'now', PERIOD '[2026-01-01,now)'),
+    (-9223372036854775808, 'é<b>&', ONGOING '2026-03-01', PERIOD '[2026-01-01,2026-06-01)'),
+    (30, 'B', ONGOING '+2026-03-01', PERIOD '[2026-01-01,+2026-04-01)'),
+    (4, '\U0001f600', ONGOING '2026-03-01+', PERIOD '[2026-01-01,2026-04-01+)'),
+    (4, '\ufb01', ONGOING '2026-03-01+2026-05-01', PERIOD '[2026-01-15+2026-03-01,2026-04-01+2026-06-01)'),
+    (6, '', ONGOING 'infinity', PERIOD '[now,2026-07-01)'),
+    (7, '</script>', ONGOING '-infinity', PERIOD '[2026-03-01,2026-02-01)'),
+    (7, 'x', ONGOING 'now', PERIOD '[now,infinity)'),
+    (7, 'x', ONGOING '2026-01-01+', PERIOD '[now,infinity)'),
+    (8, 'y', ONGOING '-000044-03-15', PERIOD '[-009999-01-01,9999-12-31)');
+DELETE FROM x WHERE id < 6 AND ONGOING 'now' >= DATE '2026-06-15';
+DELETE FROM x WHERE name = 'B' AND ONGOING 'now' >= DATE '2026-02-01' AND ONGOING 'now' < DATE '2026-02-20';
+SAVE x TO 'all_forms.csv';
+"""
+
+# Asks each page on each day, by its field and by its slider, and writes the cells that it shows then.
+HARNESS = """<!DOCTYPE html><meta charset="utf-8"><pre id="found"></pre><script>
+const asked = %s, found = {};
+function shown(page) {
+    const texts = row => [...row.querySelectorAll("[role=cell]")].map(cell => cell.textContent);
+    return [...page.querySelectorAll("[role=row]")].map(texts);
+}
+function ask(page, name, value) {
+    page.getElementById(name).value = value;
+    page.getElementById(name).dispatchEvent(new Event("input"));
+    return shown(page);
+}
+for (const [file, days] of Object.entries(asked)) {
+    const frame = document.createElement("iframe");
+    frame.width = 1200; frame.height = 3000; frame.src = file;
+    frame.onload = () => {
+        const page = frame.contentDocument;
+        const field = page.getElementById("day");
+        found[file] = days.map(([text, number]) => [text, ask(page, "day", text), ask(page, "slider", number), field.value]);
+        document.getElementById("found").textContent = JSON.stringify(found);
+    };
+    document.body.append(frame);
+}
+</script>"""
+
+
+def browser() -> Optional[str]:
+    """Chromium, where it is there and shows a page; else None."""
+    found = [path for path in map(shutil.which, ("chromium", "chromium-browser", "google-chrome")) if path]
+    return found[0] if found and "<p>shown" in dom_of(found[0], "data:text/html,<p>shown") else None
+
+
+def dom_of(program: str, address: str) -> str:
+    """What the browser has made of a page."""
+    words = ["--headless=new", "--no-sandbox", "--disable-gpu", "--disable-dev-shm-usage", "--allow-file-access-from-files", "--dump-dom"]
+    profile = tempfile.mkdtemp(prefix="ongq-browser-")
+    try:
+        done = subprocess.run([program, *words, f"--user-data-dir={profile}", address], stdin=subprocess.DEVNULL,
+                              capture_output=True, timeout=240, env={**os.environ, "HOME": profile})
+    except subprocess.TimeoutExpired:
+        return ""
+    finally:
+        shutil.rmtree(profile, ignore_errors=True)
+    return done.stdout.decode()
+
+
+def draw(path: str, *words: str) -> str:
+    done = subprocess.run([sys.executable, f"{answers.INTEROP}/draw", path, *words], capture_output=True,
+                          env={**os.environ, "COLUMNS": "100"})
+    if done.returncode:
+        raise AssertionError(f"draw: {done.stderr.decode()}")
+    return done.stdout.decode()
+
+
+def is_saved(path: str) -> bool:
+    with open(path, encoding="utf-8") as file:
+        return re.match("ongq:2$|.*,rows:", file.readline()) is not None
+
+
+def files(test: Any) -> list[str]:
+    """The saved files that are drawn: those of the examples, one with each form, and some random ones."""
+    answers.run(test.program, test.folder, ALL_FORMS)
+    saved = [path for path in sorted(glob.glob(f"{answers.TOP}/examples/*/*.csv")) if is_saved(path)]
+    return saved + [test.file(name) for name in ("all_forms.csv", "case_4.csv", "case_10.csv", "case_11.csv")]
+
+
+def try_drawings(test: Any) -> None:
+    """Each drawing has a lane for each row, and the SVG is well formed; that of README.md is what is drawn today."""
+    due = f"{answers.TOP}/docs/due"
+    with open(f"{due}.csv", encoding="utf-8") as table, open(f"{due}.svg", encoding="utf-8") as drawn:
+        test.same("drawings", "docs/due.csv is the result of examples/contracts.ongq", test.text("due.due.csv"), table.read())
+        test.same("drawings", "docs/due.svg is drawn of it", draw(f"{due}.csv"), drawn.read())
+    for path in files(test):
+        rows = len(ongq.read(path).entries)
+        tree = xml.etree.ElementTree.fromstring(draw(path))
+        names = [node for node in tree.iter("{http://www.w3.org/2000/svg}text") if node.get("class") == "name"]
+        test.same("drawings", f"lanes of {path}", rows, len(names))
+        first = [line for line in draw(path, "--text").splitlines()[2:-1] if not line.startswith("  ")]
+        test.same("drawings", f"lanes of {path} as text", True, len(first) <= rows)
+
+
+def try_page(test: Any, program: str) -> None:
+    """The page shows on each day what ongq prints, by the field, and by the slider where it reaches."""
+    asked, wanted = {}, {}
+    for number, path in enumerate(files(test)):
+        with open(path, encoding="utf-8") as file:
+            days = answers.days_around(file.read(), path, False)[::40 // DAYS]
+        test.put(f"page_{number}.html", draw(path, "--html"))
+        asked[f"page_{number}.html"] = [(day, int(ongq.read_day(day))) for day in days]
+        shutil.copy(path, test.file("f"))
+        output = answers.run(test.program, test.folder, f"{answers.MARK}OPEN r FROM 'f';\n{answers.prints('r', days)}")
+        wanted[f"page_{number}.html"] = (path, answers.printed(output, days))
+    test.put("harness.html", HARNESS % json.dumps(asked))
+    compare(test, wanted, found_by(test, program))
+
+
+def found_by(test: Any, program: str) -> dict:
+    parts = re.search('<pre id="found">(.*?)</pre>', dom_of(program, "file://" + test.file("harness.html")), re.DOTALL)
+    return json.loads(html.unescape(parts[1]) or "{}") if parts else {}
+
+
+def compare(test: Any, wanted: dict, found: dict) -> None:
+    test.same("pages that were shown", "all", sorted(wanted), sorted(found))
+    for page, shown in found.items():
+        path, printed = wanted[page]
+        for day, by_field, by_slider, slider_day in shown:
+            rows = printed[day]
+            test.same("rows that the page shows", f"{path}, as of {day}", rows, by_field)
+            if slider_day == day:
+                test.same("rows that the page shows by its slider", f"{path}, as of {day}", rows, by_slider)
