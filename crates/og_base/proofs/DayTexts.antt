@@ -45,7 +45,8 @@ not_negative : (z : ℤ) → pos 0 ≤ℤ z → pos (unsigned_abs z) ≡ z
 not_negative (pos n) h = refl
 not_negative (negsuc n) h = absurd (omega (arith, signed_arith, h))
 
-ref_day_text_is : (n : ℤ) → IsRefDay n → IsRefDayText (civil_text (civil_day (unsigned_abs (n -ℤ first_day)))) n
+-- a reference day has its text
+pub ref_day_text_is : (n : ℤ) → IsRefDay n → IsRefDayText (civil_text (civil_day (unsigned_abs (n -ℤ first_day)))) n
 unfolding date_of
 ref_day_text_is n h =
     let place = not_negative (n -ℤ first_day) (omega (arith, signed_arith, h.0)) in

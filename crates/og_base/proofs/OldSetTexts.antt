@@ -1,15 +1,15 @@
 -- The set texts of the earlier calendar.
-use Rattle.std.proofs.Common.{◌≡◌, ◌≤ℤ◌, ℕ, ℤ, inl, inr, List, [], ◌∷◌, ◌++◌, Bool, true, false, cond, refl, sym, ap, ap₂, subst, ◌∙◌, ◌||◌, arith}
+use Rattle.std.proofs.Common.{◌≡◌, ◌≤ℤ◌, ◌<ℤ◌, ℕ, ℤ, codes, inl, inr, List, [], ◌∷◌, ◌++◌, Bool, true, false, cond, refl, sym, ap, ap₂, subst, ◌∙◌, ◌||◌, arith}
 use Rattle.std.specs.Ordering.{int_eq}
 use Rattle.std.proofs.lemmas.Bool.Decides.{Decides-int_eq}
 use Rattle.std.proofs.lemmas.Int.{ints}
 use Rattle.og_base.specs.Calendar.{IsRefDayText, IsRefDay, IsExtDay, day_text, first_day}
-use Rattle.og_base.specs.Ranges.{Range, IsRange, IsNormal, in_range, holds_day}
+use Rattle.og_base.specs.Ranges.{Range, IsRange, IsNormal, BeginAfter, in_range, holds_day}
 use Rattle.og_base.specs.SetTexts.{lower_text, range_text, ranges_text, set_text}
-use Rattle.og_base.specs.OldTexts.{old_first, old_last, IsOldRefDayText, IsOldLowerText, IsOldUpperText, IsOldRangeText, IsOldRangesText, IsOldSetText}
+use Rattle.og_base.specs.OldTexts.{old_first, old_last, old_before, old_after, IsOldRefDayText, IsOldLowerText, IsOldUpperText, IsOldRangeText, IsOldRangesText, IsOldSetText}
 use Rattle.og_base.proofs.BoundaryLemmas.{int_lt-no}
 use Rattle.og_base.proofs.DayTexts.{civil_in_range, text_is}
-use Rattle.og_base.proofs.OldTexts.{IsOldRefDay-text, IsPlainDayText-old}
+use Rattle.og_base.proofs.OldTexts.{IsOldRefDay-text, old_ref_day-text, IsPlainDayText-old}
 use Rattle.og_base.proofs.SetTexts.{ext_day, lower_text_is}
 use Rattle.og_base.proofs.TextForms.{IsRefDayText-plain}
 
@@ -103,3 +103,40 @@ pub set_text-old : (text : List ℕ) (s : List Range) → IsOldSetText text s
 set_text-old text s (ranges, is, joined) =
     let now = ranges_now ranges s is in
     (now_ranges s, now.0, joined ∙ ap (λ x. 123 ∷ x ++ 125 ∷ []) now.1, λ d low _. holds_day-now s d low)
+
+-- each lower end has its text
+old_lower-text : (n : ℤ) → old_first ≤ℤ n → n ≤ℤ old_last → (text : List ℕ) × IsOldLowerText text n
+old_lower-text n low high =
+    by_old n
+    (λ same _. (codes "-infinity", inl (refl, same)))
+    (λ other _. let day = old_ref_day-text n (low, high) in (day.0, inr (day.1, other)))
+
+-- each upper end has its text
+old_upper-text : (n : ℤ) → old_first ≤ℤ n → n ≤ℤ old_after → (text : List ℕ) × IsOldUpperText text n
+old_upper-text n low high = at (int_eq n old_after) refl
+  where
+    at : (t : Bool) → int_eq n old_after ≡ t → (text : List ℕ) × IsOldUpperText text n
+    at true e = (codes "infinity", inl (refl, (Decides-int_eq n old_after).0 e))
+    at false e =
+        let other : n ≡ old_after → ⊥ = λ same. cc (sym ((Decides-int_eq n old_after).1 same) ∙ e) in
+        let day = old_ref_day-text n (low, omega (arith, ints, other, high)) in
+        (day.0, inr day.1)
+
+-- each range from 0001-01-01 on has its text
+old_range-text : (r : Range) → IsRange r → old_before <ℤ r.lo → (text : List ℕ) × IsOldRangeText text r
+old_range-text r is late =
+    let lower = old_lower-text r.lo (omega (arith, ints, late)) is.lo_in.1 in
+    let upper = old_upper-text r.hi (omega (arith, ints, late, is.some)) is.hi_in.1 in
+    (_, record { lower = lower.0; upper = upper.0; lo = lower.1; hi = upper.1; some = is.some; joined = refl })
+
+old_ranges-text : (s : List Range) → IsNormal s → BeginAfter old_before s → (text : List ℕ) × IsOldRangesText text s
+old_ranges-text [] is late = ([], refl)
+old_ranges-text (r ∷ []) is late = old_range-text r is.0 late
+old_ranges-text (r ∷ (q ∷ rs)) is late =
+    let first = old_range-text r is.0 late in
+    let rest = old_ranges-text (q ∷ rs) is.2 (omega (arith, ints, late, is.0.some, is.1)) in
+    (_, (first.0, rest.0, first.1, is.1, rest.1, refl))
+
+-- each set of days of the earlier calendar has its text
+pub old_set-text : (s : List Range) → IsNormal s → BeginAfter old_before s → (text : List ℕ) × IsOldSetText text s
+old_set-text s is late = let ranges = old_ranges-text s is late in (_, (ranges.0, ranges.1, refl))

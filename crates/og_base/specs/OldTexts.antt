@@ -1,7 +1,7 @@
 -- The texts of days and of sets of days in the earlier calendar, whose first day was 0001-01-01. Its numbers are written out.
 use Rattle.std.specs.Prelude.{◌≡◌, ◌≢◌, ◌⊎◌, ◌≤◌, ◌<ℤ◌, ◌++◌, ℕ, ℤ, pos, neg_ℤ, List, [], ◌∷◌, codes, if◌then◌else◌}
 use Rattle.std.specs.Ordering.{int_eq}
-use Rattle.jiff_core.specs.Calendar.{IsCivilDate, days_from_civil}
+use Rattle.jiff_core.specs.Calendar.{IsBetween, IsCivilDate, days_from_civil}
 use Rattle.og_base.specs.Calendar.{before_all}
 use Rattle.og_base.specs.Ranges.{Range}
 use Rattle.og_base.specs.TextForms.{two_digits, four_digits}
@@ -21,6 +21,10 @@ old_before = neg_ℤ (pos 719_163)
 -- infinity
 abbrev pub old_after : ℤ
 old_after = pos 2_932_897
+
+-- an extended day of the earlier calendar: -infinity, infinity, or a day between
+abbrev pub IsOldDay : ℤ → Type 0
+IsOldDay n = IsBetween old_before old_after n
 
 -- four digits, a dash, two digits, a dash, two digits, which name a civil day from 0001-01-01 to 9999-12-31
 abbrev pub IsOldRefDayText : List ℕ → ℤ → Type 0

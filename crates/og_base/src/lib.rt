@@ -35,7 +35,5 @@ pub use rt_set::{RtSet, meet_cuts};
 pub use set::rising;
 pub use set_text::{RtRefusal, read_rt, write_rt};
 pub use text::{NotADay, one_text_a_day, read_day, read_ref_day, write_day};
-pub use text_laws::{
-    a_day_text_or_none, form_of_day_texts, old_day_texts, old_set_texts, one_text_a_set,
-};
+pub use text_laws::{a_day_text_or_none, form_of_day_texts, old_texts, one_text_a_set};
 pub use words::Words;

@@ -1,15 +1,15 @@
 -- The point texts and the period texts of the earlier calendar.
-use Rattle.std.proofs.Common.{◌≡◌, ◌≤ℤ◌, ℕ, ℤ, inl, inr, List, Bool, true, false, refl, arith}
+use Rattle.std.proofs.Common.{◌≡◌, ◌≤ℤ◌, ℕ, ℤ, inl, inr, List, Bool, true, false, refl, sym, ◌∙◌, arith}
 use Rattle.std.specs.Prelude.{int_lt}
 use Rattle.std.specs.Ordering.{int_eq}
 use Rattle.std.proofs.lemmas.Bool.Decides.{Decides-int_eq}
 use Rattle.std.proofs.lemmas.Int.{ints}
 use Rattle.og_base.specs.Calendar.{IsRefDayText, before_all}
-use Rattle.og_base.specs.OldTexts.{IsOldRefDayText, old_first, old_last, old_before, now_number}
+use Rattle.og_base.specs.OldTexts.{IsOldRefDayText, old_first, old_last, old_before, old_after, now_number}
 use Rattle.og_base.proofs.BoundaryLemmas.{by_day, int_lt-yes, int_lt-no}
-use Rattle.og_base.proofs.OldTexts.{IsDayText-old, IsOldRefDay-text, IsPlainDayText-old, now_number-kept}
+use Rattle.og_base.proofs.OldTexts.{IsDayText-old, IsOldRefDay-text, IsPlainDayText-old, now_number-kept, old_day-text, old_ref_day-text}
 use Rattle.og_base.proofs.TextForms.{IsRefDayText-plain}
-use Rattle.og_time.specs.OldTexts.{IsOldPointText, IsOldPeriodText}
+use Rattle.og_time.specs.OldTexts.{IsOldPoint, IsOldPointText, IsOldPeriod, IsOldPeriodText}
 use Rattle.og_time.specs.Period.{Period, IsPeriodText, period_at}
 use Rattle.og_time.specs.Point.{Point, IsPointText, point_at}
 
@@ -81,3 +81,41 @@ IsPeriodText-old text i (first, last, joined, start, end) = (
   (first, last, joined, point_text-now first i.start start, point_text-now last i.end end),
   λ d low _. (point_at-now i.start d low, point_at-now i.end d low),
 )
+
+-- each point of the earlier calendar has its text
+pub old_point-text : (p : Point) → IsOldPoint p → (text : List ℕ) × IsOldPointText text p
+old_point-text p is = at (int_eq p.low p.high) (int_eq p.low old_before) (int_eq p.high old_after) refl refl refl
+  where
+    same : (m n : ℤ) → int_eq m n ≡ true → m ≡ n
+    same m n e = (Decides-int_eq m n).0 e
+
+    other : (m n : ℤ) → int_eq m n ≡ false → m ≡ n → ⊥
+    other m n e s = cc (sym ((Decides-int_eq m n).1 s) ∙ e)
+
+    at : (fixed first last : Bool) → int_eq p.low p.high ≡ fixed → int_eq p.low old_before ≡ first → int_eq p.high old_after ≡ last → (text : List ℕ) × IsOldPointText text p
+    at true first last e f g = let day = old_day-text p.low is.low_in in (day.0, inl (day.1, sym (same p.low p.high e)))
+    at false true true e f g = (_, inr (inl (refl, same p.low old_before f, same p.high old_after g)))
+    at false false true e f g =
+        let apart = other p.low p.high e in
+        let some = other p.low old_before f in
+        let day = old_ref_day-text p.low (omega (arith, ints, some, is.low_in.0), omega (arith, ints, apart, is.ordered, is.high_in.1)) in
+        (_, inr (inr (inl (day.0, refl, day.1, same p.high old_after g))))
+    at false true false e f g =
+        let apart = other p.low p.high e in
+        let some = other p.high old_after g in
+        let day = old_ref_day-text p.high (omega (arith, ints, apart, is.ordered, is.low_in.0), omega (arith, ints, some, is.high_in.1)) in
+        (_, inr (inr (inr (inl (day.0, refl, same p.low old_before f, day.1)))))
+    at false false false e f g =
+        let apart = other p.low p.high e in
+        let low = other p.low old_before f in
+        let high = other p.high old_after g in
+        let first = old_ref_day-text p.low (omega (arith, ints, low, is.low_in.0), omega (arith, ints, is.ordered, high, is.high_in.1)) in
+        let last = old_ref_day-text p.high (omega (arith, ints, low, is.low_in.0, is.ordered), omega (arith, ints, high, is.high_in.1)) in
+        (_, inr (inr (inr (inr (first.0, last.0, refl, first.1, last.1, omega (arith, ints, apart, is.ordered))))))
+
+-- each period of the earlier calendar has its text
+pub old_period-text : (i : Period) → IsOldPeriod i → (text : List ℕ) × IsOldPeriodText text i
+old_period-text i is =
+    let first = old_point-text i.start is.start_is in
+    let last = old_point-text i.end is.end_is in
+    (_, (first.0, last.0, refl, first.1, last.1))

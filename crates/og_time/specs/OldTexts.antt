@@ -1,8 +1,19 @@
 -- The texts of points and of periods in the earlier calendar, whose first day was 0001-01-01. Their ends have its numbers.
-use Rattle.std.specs.Prelude.{◌≡◌, ◌⊎◌, ◌++◌, ◌<ℤ◌, List, ℕ, codes}
-use Rattle.og_base.specs.OldTexts.{IsOldDayText, IsOldRefDayText, old_before, old_after}
+use Rattle.std.specs.Prelude.{◌≡◌, ◌⊎◌, ◌++◌, ◌<ℤ◌, ◌≤ℤ◌, List, ℕ, codes}
+use Rattle.og_base.specs.OldTexts.{IsOldDay, IsOldDayText, IsOldRefDayText, old_before, old_after}
 use Rattle.og_time.specs.Point.{Point}
 use Rattle.og_time.specs.Period.{Period, bracketed}
+
+-- a point of the earlier calendar: two of its extended days, the first at most the second
+pub record IsOldPoint (p : Point) : Type 0 where
+  pub low_in : IsOldDay p.low
+  pub high_in : IsOldDay p.high
+  pub ordered : p.low ≤ℤ p.high
+
+-- a period of the earlier calendar: both ends are points of it
+pub record IsOldPeriod (i : Period) : Type 0 where
+  pub start_is : IsOldPoint i.start
+  pub end_is : IsOldPoint i.end
 
 -- X: the fixed point X+X
 abbrev pub IsOldFixedText : List ℕ → Point → Type 0
