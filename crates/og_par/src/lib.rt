@@ -6,8 +6,8 @@
 //! is one list for all workers and gates (`one_list_for_all_workers`). A gate is told of each chunk
 //! of items and proves nothing. `par_handed` hands each item over to a worker, which may take it apart.
 //!
-//! The two tests, in src/phase.rt, show the order of the items, and that a phase runs in more than
-//! one thread, which no clause says.
+//! The three tests, in src/phase.rt, show the order of the items, and what no clause says: that a phase runs
+//! in more than one thread, and that its gate is told of each chunk once, and of no more chunks.
 #![tactic(auto)]
 
 mod gate;

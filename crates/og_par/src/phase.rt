@@ -110,7 +110,8 @@ pub fn one_list_for_all_workers<T, P: Piece<T>>(piece: &P, items: &[T])
 mod tests {
     use super::*;
     use crate::gate::OpenGate;
-    use std::sync::atomic::{AtomicBool, Ordering};
+    use std::alloc::AllocGlobal;
+    use std::sync::atomic::{AtomicBool, AtomicUsize, Ordering};
 
     // Makes of an item the item and ten times the item.
     struct TenTimes;
@@ -159,6 +160,43 @@ mod tests {
         }
     }
 
+    // Counts how often each number of a chunk is told; those that no chunk can have are counted as one.
+    #[derive(Drop)]
+    struct Counting {
+        counts: Vec<AtomicUsize>,
+    }
+
+    impl Gate for Counting {
+        fn enter(&self, piece: usize) {
+            if let Some(count) = self.counts.get(piece.min(MAX_WORKERS)) {
+                count.fetch_add(1, Ordering::SeqCst);
+            }
+        }
+    }
+
+    // How often each number is told where so many workers make of so many items.
+    fn told<H: Threads + Sync + AllocGlobal>(
+        rt: &H,
+        workers: usize,
+        items: u16,
+    ) -> Result<Vec<usize>, NoMemory>
+        requires least { 1 ≤ workers }
+        requires most { workers ≤ max_workers }
+    {
+        let mut counts = Vec::new(rt.alloc());
+        for _ in 0..=MAX_WORKERS {
+            counts.push(AtomicUsize::new(0))?;
+        }
+        let gate = Counting { counts };
+        let items = numbers(rt.alloc(), items)?;
+        par_rows(rt, rt.alloc(), workers, items.as_slice(), &TenTimes, &gate)?;
+        let mut told = Vec::new(rt.alloc());
+        for count in &gate.counts {
+            told.push(count.load(Ordering::SeqCst))?;
+        }
+        Ok(told)
+    }
+
     // The numbers from 1 up to that one.
     fn numbers(alloc: Global, last: u16) -> Result<Vec<u16>, NoMemory> {
         let mut items = Vec::new(alloc);
@@ -204,6 +242,33 @@ mod tests {
         assert_eq!(rt; made.len(), 2000);
         assert!(rt; meeting.first_saw.load(Ordering::SeqCst));
         assert!(rt; meeting.second_saw.load(Ordering::SeqCst));
+        Ok(())
+    }
+
+    #[test]
+    fn each_chunk_is_told_once_by_its_number(rt: HostRuntime) -> Result<(), NoMemory> {
+        // The workers, the items, and the chunks that they make.
+        let phases: [(usize, u16, usize); 8] = [
+            (4, 0, 0),
+            (4, 1, 1),
+            (4, 5, 3),
+            (5, 5, 5),
+            (64, 5, 5),
+            (1, 1000, 1),
+            (3, 1000, 3),
+            (64, 1000, 63),
+        ];
+        for (workers, items, chunks) in phases {
+            let told = told(&rt, workers, items)?;
+            for (number, times) in told.iter().enumerate() {
+                let wanted = usize::from(number < chunks);
+                assert_eq!(rt;
+                    *times,
+                    wanted,
+                    "{workers} workers, {items} items, chunk {number}"
+                );
+            }
+        }
         Ok(())
     }
 }
