@@ -1,13 +1,14 @@
 -- What a rising set has, that it rises, and that no other rising list has the same members.
-use Rattle.std.proofs.Common.{◌≡◌, ◌⊎◌, ◌++◌, ◌<◌, ◌<ℤ◌, ℕ, ℤ, zero, suc, Bool, true, List, [], ◌∷◌, length, get_or, filter, Contains, Ordering, Less, Equal, Greater, int_cmp, refl, sym, ap, ap₂, ◌∙◌, subst, inl, inr, ⊎_elim, true≢false, is_lt, arith}
+use Rattle.std.proofs.Common.{◌≡◌, ◌⊎◌, ◌++◌, ◌<◌, ◌≤◌, ◌<ℤ◌, ℕ, ℤ, zero, suc, Bool, true, List, [], ◌∷◌, length, get_or, filter, Contains, Ordering, Less, Equal, Greater, int_cmp, refl, sym, ap, ap₂, ◌∙◌, subst, inl, inr, ⊎_elim, true≢false, is_lt, arith}
 use Rattle.std.specs.Cmp.{IsTotalOrder, Equal-is}
-use Rattle.std.specs.List.{AllByRecursion, All}
+use Rattle.std.specs.List.{AllByRecursion, All, AllAdjacentBelow}
 use Rattle.std.specs.List.Sorted.{IsStrictlySortedBy}
 use Rattle.std.specs.Ordering.{MatchOrdering, eq_by_cmp, ordering_reverse}
 use Rattle.std.proofs.lemmas.Bool.{cond_both}
 use Rattle.std.proofs.lemmas.Cmp.{int_ranked, int_cmp_total, tied_itself}
 use Rattle.std.proofs.lemmas.List.Elements.{All-filter, All-from_recursion, recursion_from_All, All-weaker, All-contains, All-contains_itself, filter_passes, Contains-append_left, Contains-append_right, Contains-append_cases}
 use Rattle.std.proofs.lemmas.List.Kept.{IsStrictlySortedBy-filter}
+use Rattle.std.proofs.lemmas.Map.Keys.{sorted_from_all_adjacent}
 use Rattle.og_base.specs.Set.{IsExact, IsExactOrder, IsWithin, by_order, with_member, set_of}
 
 -- what holds of each of the three holds of the one that the answer picks
@@ -160,6 +161,20 @@ module _ {F : Type 0} {cmp : F → F → Ordering} (total : IsTotalOrder cmp) wh
   same_rising (x ∷ xs) (y ∷ ys) up vp there back =
       let e = same_head x y xs ys up vp there back in
       ap₂ (λ z zs. z ∷ zs) e (same_rising xs ys (rising_tail x xs up) (rising_tail y ys vp) (tail_within x y xs ys e up there) (tail_within y x ys xs (sym e) vp back))
+
+  -- a list rises in which each comes before the next
+  pub rises : (xs : List F) (n : ℕ) → length xs ≤ n → AllAdjacentBelow (λ x y. cmp x y ≡ Less) xs n → IsStrictlySortedBy cmp xs
+  unfolding IsStrictlySortedBy
+  rises [] n most next = tt
+  rises (x ∷ xs) n most next = sorted_from_all_adjacent total (x ∷ xs) x (λ k lt. next k x (omega (arith, most, lt)))
+
+  -- in a rising list each comes before the next
+  pub next_above : (xs : List F) (i : ℕ) (d e : F) → suc i < length xs → IsStrictlySortedBy cmp xs → cmp (get_or xs i d) (get_or xs (suc i) e) ≡ Less
+  unfolding IsStrictlySortedBy
+  next_above [] i d e l up = absurd (omega (arith, l))
+  next_above (x ∷ []) i d e l up = absurd (omega (arith, l))
+  next_above (x ∷ y ∷ ys) zero d e l up = up.0.0
+  next_above (x ∷ y ∷ ys) (suc i) d e l up = next_above (y ∷ ys) i d e (omega (arith, l)) up.1
 
 module _ {F : Type 0} {cmp : F → F → Ordering} (o : IsExactOrder cmp) where
   -- a rising list with the members of a list is the set of that list

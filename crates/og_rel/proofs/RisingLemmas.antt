@@ -1,16 +1,9 @@
 -- Lists that rise, and one that comes before another.
-use Rattle.std.proofs.Common.{◌≡◌, ◌++◌, ◌-◌, ◌≤◌, ℕ, suc, List, [], ◌∷◌, length, get_or, Ordering, Less, arith, ap, sym, subst, ◌∙◌}
+use Rattle.std.proofs.Common.{◌≡◌, ◌++◌, ◌-◌, suc, List, [], ◌∷◌, length, get_or, Ordering, Less, arith, ap, sym, subst, ◌∙◌}
 use Rattle.std.specs.Cmp.{IsTotalOrder}
-use Rattle.std.specs.List.{AllAdjacentBelow, AllByRecursion}
+use Rattle.std.specs.List.{AllByRecursion}
 use Rattle.std.specs.List.Sorted.{IsStrictlySortedBy}
 use Rattle.std.proofs.lemmas.List.{append-nil}
-use Rattle.std.proofs.lemmas.Map.Keys.{sorted_from_all_adjacent}
-
--- a list rises in which each comes before the next
-pub rises : {F : Type 0} {cmp : F → F → Ordering} (total : IsTotalOrder cmp) (xs : List F) (n : ℕ) → length xs ≤ n → AllAdjacentBelow (λ x y. cmp x y ≡ Less) xs n → IsStrictlySortedBy cmp xs
-unfolding IsStrictlySortedBy
-rises total [] n most next = tt
-rises total (x ∷ xs) n most next = sorted_from_all_adjacent total (x ∷ xs) x (λ k lt. next k x (omega (arith, most, lt)))
 
 module _ {F : Type 0} {cmp : F → F → Ordering} (total : IsTotalOrder cmp) where
   -- what comes before a value comes before all that come after it

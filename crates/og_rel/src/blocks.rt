@@ -4,8 +4,7 @@ ghost use Rattle.std.specs.List.{flat_map};
 
 use crate::cuts::parts_of;
 use crate::pair::{Pair, present_rows};
-use crate::rising_rows::rising_rows;
-use og_base::{Instant, NoMemory, RefDay};
+use og_base::{Instant, NoMemory, RefDay, rising};
 use og_par::Piece;
 use std::alloc::Global;
 
@@ -53,8 +52,8 @@ impl<'a, 'c, R: Instant> Piece<&'a [Pair<R>]> for AtDay<'c, R::Fixed> {
         out: &mut Vec<Vec<R::Fixed>>,
     ) -> Result<(), NoMemory> {
         let rows = present_rows(alloc, *item, self.day)?;
-        let rising = rising_rows(rows)?;
-        let mut parts = parts_of(alloc, rising, self.cuts)?;
+        let list = rising(rows)?;
+        let mut parts = parts_of(alloc, list, self.cuts)?;
         out.append(&mut parts)?;
         Ok(())
     }

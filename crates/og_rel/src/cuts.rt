@@ -4,8 +4,7 @@ ghost use Rattle.std.specs.List.Sorted.{IsPermutation};
 ghost use Rattle.og_rel.specs.Shares.{rows_of};
 
 use crate::pair::{Pair, add_row};
-use crate::rising_rows::rising_rows;
-use og_base::{Instant, NoMemory, RefDay};
+use og_base::{Instant, NoMemory, RefDay, rising};
 use std::alloc::Global;
 use std::cmp::Ordering;
 
@@ -23,7 +22,7 @@ pub(crate) fn cuts_of<R: Instant>(
     requires { 1 ≤ shares }
 {
     let rows = some_rows(alloc, shares, pairs, d)?;
-    let mut cuts = rising_rows(rows)?;
+    let mut cuts = rising(rows)?;
     let step = cuts.len() / shares;
     let mut left = step;
     cuts.retain(|_| {

@@ -18,7 +18,6 @@ mod cuts;
 mod ordered;
 mod pair;
 mod relation;
-mod rising_rows;
 mod row_test;
 mod shares;
 mod tables;

@@ -5,8 +5,7 @@ ghost use Rattle.std.specs.List.Sorted.{IsStrictlySortedBy};
 ghost use Rattle.og_base.specs.Set.{IsExact, set_of};
 ghost use Rattle.og_rel.specs.Shares.{rows_of};
 
-use crate::rising_rows::rising_rows;
-use og_base::NoMemory;
+use og_base::{NoMemory, rising};
 use og_par::followed;
 use std::alloc::Global;
 use std::cmp::Ordering;
@@ -35,7 +34,7 @@ fn both_in_order<F: Ord + Drop>(first: Vec<F>, second: Vec<F>) -> Result<Vec<F>,
     if is_before {
         return Ok(all);
     }
-    rising_rows(all)
+    rising(all)
 }
 
 // Whether one rising list comes before the other.

@@ -8,9 +8,8 @@ ghost use Rattle.og_rel.specs.Relations.{HasDays, instead, others, passing, rela
 use crate::blocks::LEAST;
 use crate::by_workers::rows_by_workers;
 use crate::pair::{Pair, add_passing, count_other_pairs, present_rows, replace_pairs};
-use crate::rising_rows::rising_rows;
 use crate::row_test::RowTest;
-use og_base::{Instant, NoMemory, OngoingRow, RefDay, RtSet};
+use og_base::{Instant, NoMemory, OngoingRow, RefDay, RtSet, rising};
 use og_par::Gate;
 use std::alloc::Global;
 use std::marker::Model;
@@ -170,7 +169,7 @@ impl<R: OngoingRow> Rel<R> {
     {
         let alloc = *self.pairs.allocator();
         let rows = present_rows(alloc, self.pairs.as_slice(), d)?;
-        rising_rows(rows)
+        rising(rows)
     }
 
     /// The list of `at`, made by 1 to `MAX_WORKERS` workers of og_par: each makes the list of a block of

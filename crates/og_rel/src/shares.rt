@@ -4,8 +4,7 @@ ghost use Rattle.std.specs.List.Sorted.{IsPermutation};
 ghost use Rattle.og_base.specs.Set.{IsExact, set_of};
 ghost use Rattle.og_rel.specs.Shares.{AreListed, rows_of, rows_of_shares};
 
-use crate::rising_rows::rising_rows;
-use og_base::NoMemory;
+use og_base::{NoMemory, rising};
 use og_par::followed;
 use std::alloc::Global;
 
@@ -65,7 +64,7 @@ pub(crate) fn together<F: Ord + Drop>(
     ensures { IfOk result (λ lists. AreListed F.cmp (rows_of parts.items) lists.items) }
 {
     let rows = all_rows(alloc, parts)?;
-    let list = rising_rows(rows)?;
+    let list = rising(rows)?;
     let mut lists = Vec::with_capacity(alloc, 1)?;
     lists.push(list)?;
     Ok(lists)

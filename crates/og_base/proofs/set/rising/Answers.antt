@@ -3,11 +3,16 @@ use Rattle.std.proofs.lemmas.List.Filters.{dedup_is}
 use Rattle.std.proofs.lemmas.List.Kept.{IsStrictlySortedBy-dedup, Contains-dedup, Contains-from_dedup}
 use Rattle.std.proofs.lemmas.List.Sorted.{Contains-permutation, IsPermutation-sym}
 use Rattle.og_base.specs.Set.{IsExactOrder}
-use Rattle.og_base.proofs.SetLemmas.{is_set_of_members, eq_by_cmp-exact}
+use Rattle.og_base.proofs.SetLemmas.{is_set_of_members, set_of-rising, eq_by_cmp-exact}
 use Rattle.og_base.proofs.set.rising.Goals as goal
 
-pub returns : goal.returns
-returns g c =
+pub returns-then-rise-clause-set : goal.returns-then-rise-clause-set
+returns-then-rise-clause-set g c =
+    let o : IsExactOrder _ = record { total = g.met.T.Ord.total; exact = c.requires.exact } in
+    sym (set_of-rising o c.args.values.items (rw c.as_slice.ensures.value at (c.rise.ensures.0 c.if-rise.true)))
+
+pub returns-clause-set : goal.returns-clause-set
+returns-clause-set g c =
     let ord = g.met.T.Ord in
     let o : IsExactOrder _ = record { total = ord.total; exact = c.requires.exact } in
     let is = dedup_is _ _ _ c.dedup.ensures.filtered in

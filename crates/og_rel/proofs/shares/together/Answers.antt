@@ -10,4 +10,4 @@ returns g c =
     let list = c.in_ok-list.list in
     let rows = rows_of c.args.parts.items in
     let pushed : c.push.new.self.items ≡ list ∷ [] = search rules in
-    subst (AreListed g.F.Ord.cmp rows) (sym pushed) (listed_alone o rows list (c.in_ok-list.ensures ∙ ap (set_of g.F.Ord.cmp) c.in_ok-rows.ensures))
+    subst (AreListed g.F.Ord.cmp rows) (sym pushed) (listed_alone o rows list (c.in_ok-list.ensures.set ∙ ap (set_of g.F.Ord.cmp) c.in_ok-rows.ensures))
