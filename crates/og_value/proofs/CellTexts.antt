@@ -75,11 +75,11 @@ one_value k.Date text y z (p, a, e) (q, b, f) = e ∙ ap v.Point (one_point text
 one_value k.Period text y z (i, a, e) (j, b, f) = e ∙ ap v.Period (one_period text i j a b) ∙ sym f
 
 -- the period that has these ends on every day
-abbrev fixed_period : FixedPeriod → Period
+abbrev pub fixed_period : FixedPeriod → Period
 fixed_period p = record { start = record { low = p.start; high = p.start }; end = record { low = p.end; high = p.end } }
 
 -- its text is a text of that period
-fixed_period-read : (p : FixedPeriod) → IsExtDay p.start → IsExtDay p.end → IsPeriodText (bracketed (day_text p.start) (day_text p.end)) (fixed_period p)
+pub fixed_period-read : (p : FixedPeriod) → IsExtDay p.start → IsExtDay p.end → IsPeriodText (bracketed (day_text p.start) (day_text p.end)) (fixed_period p)
 fixed_period-read p a b =
     subst (λ text. IsPeriodText text (fixed_period p)) (fixed_period_text p.start p.end _ _ (fixed_period p) refl refl refl)
     (IsPeriodText-period_text (fixed_period p) (record { start_is = fixed_is p.start a; end_is = fixed_is p.end b }))

@@ -5,6 +5,8 @@ ghost use Rattle.og_base.specs.Calendar.{day_text};
 ghost use Rattle.og_time.specs.Period.{bracketed};
 ghost use Rattle.og_value.specs.Cells.{IsIntText, IsCell, IsFixed, kind_of, cell_text, fixed_text};
 ghost use Rattle.og_value.specs.Order.{rank};
+ghost use Rattle.og_value.specs.Steady.{steady_value};
+ghost use Rattle.og_value.specs.Values.{value_at};
 ghost use Rattle.og_value.specs.declared.kind.Kind as kinds;
 ghost use Rattle.og_value.specs.declared.value.FixedValue as fixed;
 ghost use Rattle.og_value.specs.declared.cell.CellRefusal.{CellRefusal};
@@ -37,6 +39,7 @@ pub enum CellRefusal {
 pub fn read_cell(alloc: Global, kind: Kind, text: &[u8]) -> Result<Value, CellRefusal>
     ensures value { IfOk result (λ v. IsCell kind text.now v) }
     ensures not_a_cell { result ≡ Err CellRefusal.NotACell → (v : values.Value) → ¬ IsCell kind text.now v }
+    ensures refused { ((v : values.Value) → ¬ IsCell kind text.now v) → result ≡ Err CellRefusal.NotACell }
 {
     match kind {
         Kind::Int => match read_int(text) {
@@ -96,16 +99,30 @@ pub fn write_cell(v: &Value, out: &mut Vec<u8>) -> Result<(), NoMemory>
     }
 }
 
-/// Appends the one text of the value of one day, or nothing where memory runs out.
+/// Appends the one text of the value of one day, or nothing where memory runs out. Read again it is a value
+/// that is this one on all days.
 pub fn write_fixed(v: &FixedValue, out: &mut Vec<u8>) -> Result<(), NoMemory>
     ensures written { OnOk result (out.new.items ≡ out.old.items ++ fixed_text v.now) }
     ensures refused { OnErr result (out.new.items ≡ out.old.items) }
+    ensures read_again { IsCell (kind_of (steady_value v.now)) (fixed_text v.now) (steady_value v.now) }
+    ensures same { (d : ℤ) → value_at (steady_value v.now) d ≡ v.now }
 {
+    // The calls beside the writers tell what reading it again rests on: that a text is UTF-8 and a day is one.
     match v {
         FixedValue::Int(n) => write_int(*n, out),
-        FixedValue::Text(text) => write_text(text, out),
-        FixedValue::Date(day) => write_day(*day, out),
-        FixedValue::Period(period) => write_fixed_period(*period, out),
+        FixedValue::Text(text) => {
+            text.utf8();
+            write_text(text, out)
+        }
+        FixedValue::Date(day) => {
+            let _ = day.number();
+            write_day(*day, out)
+        }
+        FixedValue::Period(period) => {
+            let _ = period.start.number();
+            let _ = period.end.number();
+            write_fixed_period(*period, out)
+        }
     }
 }
 

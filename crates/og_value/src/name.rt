@@ -57,6 +57,7 @@ impl Name {
         ensures name { IfOk result (λ n. n ≡ folded bytes.now) }
         ensures word { IfOk result (λ _. is_word bytes.now ≡ true) }
         ensures not_a_name { result ≡ Err NameRefusal.NotAName → is_word bytes.now ≡ false }
+        ensures refused { is_word bytes.now ≡ false → result ≡ Err NameRefusal.NotAName }
     {
         if !is_word(bytes) {
             return Err(NameRefusal::NotAName);

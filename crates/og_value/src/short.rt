@@ -1,5 +1,5 @@
 //! Short texts.
-ghost use Rattle.std.specs.Prelude.{◌≡◌, ◌<◌, ◌≤◌, ◌^◌, IfSome, length};
+ghost use Rattle.std.specs.Prelude.{◌≡◌, ◌<◌, ◌≤◌, ◌^◌, IfSome, IfNone, length};
 ghost use Rattle.std.specs.Cmp.Lexicographic.{slice_cmp};
 ghost use Rattle.std.specs.Ordering.{nat_cmp};
 ghost use Rattle.og_value.specs.Heights as meant;
@@ -34,7 +34,8 @@ impl Model for Short {
 impl Short {
     /// The text, where it is short.
     pub(crate) fn of(text: &str) -> Option<Short>
-        ensures { IfSome result (λ short. short ≡ text.now) }
+        ensures short { IfSome result (λ short. short ≡ text.now) }
+        ensures long { IfNone result (14 < length text.now) }
     {
         let from = text.as_bytes();
         let count = from.len();

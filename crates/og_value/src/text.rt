@@ -1,8 +1,8 @@
 //! Texts in UTF-8.
-ghost use Rattle.std.specs.Prelude.{◌≡◌, ◌<◌, ◌^◌, Err, IfOk};
+ghost use Rattle.std.specs.Prelude.{◌≡◌, ◌<◌, ◌^◌, Err, IfOk, OnErr, length};
 ghost use Rattle.std.specs.Str.{IsUtf8};
 ghost use Rattle.og_value.specs.Heights as meant;
-ghost use Rattle.og_value.specs.Held.{held_bytes};
+ghost use Rattle.og_value.specs.Held.{held_bytes, IsHeld};
 ghost use Rattle.og_value.specs.declared.text.TextRefusal.{TextRefusal};
 
 use crate::short::Short;
@@ -67,7 +67,9 @@ impl Model for Text {
 impl Held {
     // The text in the value itself where it fits there.
     fn of(alloc: Global, text: &str) -> Result<Held, AllocError>
-        ensures { IfOk result (λ held. held_bytes held ≡ text.now) }
+        ensures text { IfOk result (λ held. held_bytes held ≡ text.now) }
+        ensures place { IfOk result IsHeld }
+        ensures refused { OnErr result (14 < length text.now) }
     {
         if let Some(short) = Short::of(text) {
             return Ok(Held::Short(short));
@@ -77,11 +79,13 @@ impl Held {
 }
 
 impl Text {
-    /// The text of the bytes. `NotText` exactly where they are not UTF-8.
+    /// The text of the bytes. `NotText` exactly where they are not UTF-8. At most 14 bytes take no memory.
     pub fn of(alloc: Global, bytes: &[u8]) -> Result<Text, TextRefusal>
         ensures text { IfOk result (λ t. t ≡ bytes.now) }
         ensures utf8 { IfOk result (λ _. IsUtf8 bytes.now) }
         ensures not_text { result ≡ Err TextRefusal.NotText → ¬ IsUtf8 bytes.now }
+        ensures refused { ¬ IsUtf8 bytes.now → result ≡ Err TextRefusal.NotText }
+        ensures memory { result ≡ Err TextRefusal.NoMemory → 14 < length bytes.now }
     {
         let Ok(text) = str::from_utf8(bytes) else {
             return Err(TextRefusal::NotText);
