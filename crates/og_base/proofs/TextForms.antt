@@ -1,5 +1,6 @@
 -- The form of day texts.
-use Rattle.std.proofs.Common.{◌≡◌, ◌/◌, ◌%◌, ◌++◌, ℕ, suc, ℤ, pos, negsuc, List, [], ◌∷◌, refl, sym, ap, ◌∙◌, arith}
+use Rattle.std.proofs.Common.{◌≡◌, ◌/◌, ◌%◌, ◌++◌, ℕ, suc, ℤ, pos, negsuc, List, [], ◌∷◌, ◌≤ℤ◌, unsigned_abs, subst, refl, sym, ap, ◌∙◌, arith}
+use Rattle.std.proofs.lemmas.Int.{ints}
 use Rattle.jiff_core.specs.Calendar.{IsCivilDate}
 use Rattle.jiff_core.specs.declared.civil.date.Date.{Date}
 use Rattle.jiff_core.proofs.DateLemmas.{civil}
@@ -19,7 +20,7 @@ year_text-year_bytes (pos n) = pad4-four_digits n
 year_text-year_bytes (negsuc n) = ap (λ t. 45 ∷ 48 ∷ 48 ∷ t) (pad4-four_digits (suc n))
 
 -- what jiff prints for a date
-date_text-day_bytes : (d : Date) → date_text d ≡ day_bytes d.year d.month d.day
+pub date_text-day_bytes : (d : Date) → date_text d ≡ day_bytes d.year d.month d.day
 date_text-day_bytes d = by d.year
   where
     by : (y : ℤ) → year_text y ++ 45 ∷ [] ++ pad2 d.month ++ 45 ∷ [] ++ pad2 d.day ≡ day_bytes y d.month d.day
@@ -35,3 +36,12 @@ date_of y m d h = record { year = y; month = m; day = d; year_in = h.0; month_in
 
 pub IsRefDayText-plain : (text : List ℕ) (n : ℤ) → IsPlainDayText text n → IsRefDayText text n
 IsRefDayText-plain text n (y, m, d, h, bytes, number) = (date_of y m d h, bytes ∙ sym (date_text-day_bytes (date_of y m d h)), number)
+
+-- the ten bytes of a day in a year from 0 on, by the number of the year
+pub ten-day_bytes : (y : ℤ) (k m d : ℕ) → pos k ≡ y → four_digits k ++ 45 ∷ two_digits m ++ 45 ∷ two_digits d ≡ day_bytes y m d
+ten-day_bytes y k m d is = subst (λ z. four_digits k ++ 45 ∷ two_digits m ++ 45 ∷ two_digits d ≡ day_bytes z m d) is refl
+
+-- a number from 0 on is its size
+pub whole : (y : ℤ) (k : ℕ) → pos 0 ≤ℤ y → k ≡ unsigned_abs y → pos k ≡ y
+whole (pos n) k from is = ap pos is
+whole (negsuc n) k from is = absurd (omega (arith, ints, from))

@@ -1,7 +1,8 @@
 //! The texts of days.
-ghost use Rattle.std.specs.Prelude.{◌≡◌, ◌++◌, ◌⊎◌, ◌<◌, ℤ, List, ℕ, IfOk, OnOk, OnErr};
+ghost use Rattle.std.specs.Prelude.{◌≡◌, ◌↔◌, ◌++◌, ◌⊎◌, ◌<◌, ◌≤ℤ◌, ℤ, pos, true, List, ℕ, IfOk, OnOk, OnErr};
 ghost use Rattle.std.specs.Prelude.{Ok};
 ghost use Rattle.jiff_core.specs.Date.{epoch_day};
+ghost use Rattle.jiff_fmt.specs.Text.{date_text};
 ghost use Rattle.og_base.specs.Bytes.{Lacks};
 ghost use Rattle.og_base.specs.Calendar.{IsDayText, IsRefDayText, IsExtDay, IsRefDay, day_text, before_all, after_all};
 
@@ -44,11 +45,40 @@ pub fn read_ref_day(text: &[u8]) -> Result<RefDay, NotADay>
         return Err(NotADay);
     };
     // jiff reads more than these texts, so what it read is written again and compared.
-    let written = DateTimePrinter::new().date_text(date);
-    if written.as_str().as_bytes() != text {
+    if !is_text_of(text, date) {
         return Err(NotADay);
     }
     day_of(date)
+}
+
+// Whether the bytes are the day text of the date.
+fn is_text_of(text: &[u8], date: Date) -> bool
+    ensures { (result ≡ true) ↔ (text.now ≡ date_text date) }
+{
+    if date.year < 0 {
+        return DateTimePrinter::new().date_text(date).as_str().as_bytes() == text;
+    }
+    text == ten_bytes(date).as_slice()
+}
+
+// The day text of a date in a year from 0 on, at once: jiff's printer adds letter by letter.
+fn ten_bytes(date: Date) -> [u8; 10]
+    requires { pos 0 ≤ℤ date.year }
+    ensures { result ≡ date_text date }
+{
+    let year = unsigned(date.year);
+    [
+        b'0' + (year / 1000) as u8,
+        b'0' + (year / 100 % 10) as u8,
+        b'0' + (year / 10 % 10) as u8,
+        b'0' + (year % 10) as u8,
+        b'-',
+        b'0' + date.month / 10,
+        b'0' + date.month % 10,
+        b'-',
+        b'0' + date.day / 10,
+        b'0' + date.day % 10,
+    ]
 }
 
 // The day of a date.
@@ -69,8 +99,28 @@ pub fn write_day(day: ExtDay, out: &mut Vec<u8>) -> Result<(), NoMemory>
     let Ok(date) = Date::from_unix_epoch_day(i64::from(day.number())) else {
         unreachable!()
     };
-    let written = DateTimePrinter::new().date_text(date);
-    out.extend_from_slice(written.as_str().as_bytes())?;
+    write_date(date, out)
+}
+
+// The number of a year from 0 on.
+fn unsigned(year: i16) -> u16
+    requires { pos 0 ≤ℤ year }
+    ensures { pos result ≡ year }
+{
+    year.unsigned_abs()
+}
+
+// Appends the day text of the date.
+fn write_date(date: Date, out: &mut Vec<u8>) -> Result<(), NoMemory>
+    ensures written { OnOk result (out.new.items ≡ out.old.items ++ date_text date) }
+    ensures refused { OnErr result (out.new.items ≡ out.old.items) }
+{
+    if date.year < 0 {
+        let written = DateTimePrinter::new().date_text(date);
+        out.extend_from_slice(written.as_str().as_bytes())?;
+        return Ok(());
+    }
+    out.extend_from_slice(ten_bytes(date).as_slice())?;
     Ok(())
 }
 
