@@ -17,7 +17,7 @@ use og_base::{Cut, ExtDay, NoMemory, meet_cuts};
 use std::alloc::Global;
 
 impl OngoingPeriod {
-    /// Whether the point is in the period: at least its start, and before its end.
+    /// The days on which the point is in the period: at least its start, and before its end.
     pub fn contains(self, alloc: Global, p: OngoingPoint) -> Result<OngoingBool, NoMemory>
         ensures { IfOk result (λ b. (d : ℤ) → IsRefDay d → holds_day b d ≡ contains_day (period_at self d) (point_at p d)) }
     {
@@ -26,7 +26,7 @@ impl OngoingPeriod {
         Ok(OngoingBool::of(days))
     }
 
-    /// Whether this period ends at most where the other starts.
+    /// The days on which this period ends at most where the other starts, both being nonempty.
     pub fn before(self, alloc: Global, other: OngoingPeriod) -> Result<OngoingBool, NoMemory>
         ensures { IfOk result (λ b. (d : ℤ) → IsRefDay d → holds_day b d ≡ is_before (period_at self d) (period_at other d)) }
     {
@@ -34,7 +34,7 @@ impl OngoingPeriod {
         self.both_nonempty(alloc, other, comparison, every_day())
     }
 
-    /// Whether this period ends where the other starts.
+    /// The days on which this period ends where the other starts, both being nonempty.
     pub fn meets(self, alloc: Global, other: OngoingPeriod) -> Result<OngoingBool, NoMemory>
         ensures { IfOk result (λ b. (d : ℤ) → IsRefDay d → holds_day b d ≡ meets_period (period_at self d) (period_at other d)) }
     {
@@ -42,7 +42,7 @@ impl OngoingPeriod {
         self.both_nonempty(alloc, other, comparison, every_day())
     }
 
-    /// Whether each of the two periods starts before the other ends.
+    /// The days on which each of the two periods starts before the other ends, both being nonempty.
     pub fn overlaps(self, alloc: Global, other: OngoingPeriod) -> Result<OngoingBool, NoMemory>
         ensures { IfOk result (λ b. (d : ℤ) → IsRefDay d → holds_day b d ≡ overlaps_period (period_at self d) (period_at other d)) }
     {
@@ -51,7 +51,7 @@ impl OngoingPeriod {
         self.both_nonempty(alloc, other, first, second)
     }
 
-    /// Whether both periods have one start.
+    /// The days on which both periods have one start, both being nonempty.
     pub fn starts(self, alloc: Global, other: OngoingPeriod) -> Result<OngoingBool, NoMemory>
         ensures { IfOk result (λ b. (d : ℤ) → IsRefDay d → holds_day b d ≡ starts_period (period_at self d) (period_at other d)) }
     {
@@ -59,7 +59,7 @@ impl OngoingPeriod {
         self.both_nonempty(alloc, other, comparison, every_day())
     }
 
-    /// Whether both periods have one end.
+    /// The days on which both periods have one end, both being nonempty.
     pub fn finishes(self, alloc: Global, other: OngoingPeriod) -> Result<OngoingBool, NoMemory>
         ensures { IfOk result (λ b. (d : ℤ) → IsRefDay d → holds_day b d ≡ finishes_period (period_at self d) (period_at other d)) }
     {
@@ -67,7 +67,8 @@ impl OngoingPeriod {
         self.both_nonempty(alloc, other, comparison, every_day())
     }
 
-    /// Whether this period starts at least where the other does, and ends at most where it does.
+    /// The days on which this period starts at least where the other does, and ends at most where it does,
+    /// both being nonempty.
     pub fn during(self, alloc: Global, other: OngoingPeriod) -> Result<OngoingBool, NoMemory>
         ensures { IfOk result (λ b. (d : ℤ) → IsRefDay d → holds_day b d ≡ is_during (period_at self d) (period_at other d)) }
     {
@@ -76,7 +77,7 @@ impl OngoingPeriod {
         self.both_nonempty(alloc, other, first, second)
     }
 
-    /// Whether both periods have one start and one end.
+    /// The days on which both periods have one start and one end, both being nonempty.
     pub fn equals(self, alloc: Global, other: OngoingPeriod) -> Result<OngoingBool, NoMemory>
         ensures { IfOk result (λ b. (d : ℤ) → IsRefDay d → holds_day b d ≡ equals_period (period_at self d) (period_at other d)) }
     {
