@@ -1,1 +1,2 @@
 pub mod AllDays
+pub mod DayGroups

@@ -1,7 +1,9 @@
 //! The traits of rows at small types: a deadline, whether it has passed, and putting it off.
 ghost use Rattle.std.specs.Prelude.{◌≡◌, int_lt};
 
-use og_base::{DayCond, ExtDay, Glue, Instant, NoMemory, OngoingRow, RefDay, RowMap, RtSet};
+use og_base::{
+    DayCond, ExtDay, Glue, Grouped, Groups, Instant, NoMemory, OngoingRow, RefDay, RowMap, RtSet,
+};
 use std::alloc::Global;
 
 /// A row that is the same day on every day.
@@ -36,6 +38,29 @@ impl OngoingRow for Deadline {
     fn copy(&self, _alloc: Global) -> Result<Deadline, NoMemory> {
         Ok(*self)
     }
+}
+
+/// A deadline stands in the group of its day, and seeks there.
+impl Grouped for Deadline {
+    ghost use Rattle.og_samples.specs.DayGroups.{day_groups, days_grouped};
+
+    ghost standing = { λ row. day_groups row.day };
+
+    ghost seeking = { λ row. day_groups row.day };
+
+    fn stands_in(&self) -> Groups {
+        let group = i64::from(self.day.number()).cast_unsigned();
+        Groups {
+            first: group,
+            second: group,
+        }
+    }
+
+    fn seeks_in(&self) -> Groups {
+        self.stands_in()
+    }
+
+    ghost grouped = { λ x y d day same. days_grouped x.day y.day same };
 }
 
 impl Glue for Deadline {

@@ -1,9 +1,6 @@
 //! Names, texts and schemas, and the cells of values by their texts.
 use crate::listing::is_text;
-use og_value::{
-    CellRefusal, Column, Kind, Name, NameRefusal, Schema, Text, TextRefusal, Value, read_cell,
-    write_cell,
-};
+use og_value::{CellRefusal, Column, Kind, Name, Schema, Text, Value, read_cell, write_cell};
 use std::alloc::Global;
 
 // Whether a copy of the name has its bytes.
@@ -22,14 +19,8 @@ fn is_name(alloc: Global, word: &str, name: &str) -> bool {
     }
 }
 
-// Whether the bytes are refused as a name.
-fn is_no_name(alloc: Global, bytes: &[u8]) -> bool {
-    Name::of(alloc, bytes).err() == Some(NameRefusal::NotAName)
-}
-
 #[test]
 fn a_name_is_a_word_in_lower_case(rt: HostRuntime) {
-    assert!(rt; is_no_name(rt.alloc(), b"2x"));
     for (word, name) in &[("ID", "id"), ("_a1", "_a1"), ("Select", "select")] {
         assert!(rt; is_name(rt.alloc(), word, name), "{word}");
     }
@@ -51,15 +42,9 @@ fn is_read(alloc: Global, text: &str) -> bool {
     }
 }
 
-// Whether the bytes are refused as a text.
-fn is_no_text(alloc: Global, bytes: &[u8]) -> bool {
-    Text::of(alloc, bytes).err() == Some(TextRefusal::NotText)
-}
-
 // Texts of up to 14 bytes are held otherwise than longer ones.
 #[test]
 fn a_text_is_utf8(rt: HostRuntime) {
-    assert!(rt; is_no_text(rt.alloc(), b"\xff"));
     for text in &["", "a", "fourteen bytes", "fourteen bytes!"] {
         assert!(rt; is_read(rt.alloc(), text), "{text}");
     }
