@@ -1,35 +1,31 @@
 -- Blocks of left spans that are joined with all right spans: of one block, and of blocks one after the other.
-use Rattle.std.proofs.Common.{◌≡◌, ◌++◌, ◌+◌, ◌*◌, ◌≤◌, ◌||◌, ◌==◌, ℕ, ℤ, zero, suc, Bool, true, List, [], ◌∷◌, length, take, drop, IsPermutation, refl, sym, ap, ap₂, subst, ◌∙◌, arith}
+use Rattle.std.proofs.Common.{◌≡◌, ◌++◌, ◌+◌, ◌*◌, ◌≤◌, ◌||◌, ◌&&◌, ◌==◌, ℕ, ℤ, suc, Bool, true, List, [], ◌∷◌, length, take, drop, IsPermutation, refl, sym, ap, ap₂, subst, ◌∙◌, arith}
 use Rattle.std.specs.List.{list_any}
 use Rattle.std.proofs.lemmas.List.{append-nil, append_assoc, length-append, take-append-drop}
 use Rattle.std.proofs.lemmas.List.Folds.{list_any-append}
 use Rattle.std.proofs.lemmas.List.Sorted.{list_any-IsPermutation, length_permutation}
-use Rattle.og_base.specs.Calendar.{IsRefDay}
 use Rattle.og_base.specs.Ranges.{Range}
 use Rattle.og_base.specs.declared.comparison.Outer.{Outer}
 use Rattle.og_rel.specs.Relations.{present}
 use Rattle.og_rel.proofs.PresentLemmas.{present-append}
-use Rattle.og_join.specs.Overlaps.{NoneBelow, Rises, overlaps}
-use Rattle.og_join.specs.Tried.{rows_meet, spans_meet, meets_some, AreJoined}
+use Rattle.og_join.specs.Overlaps.{overlap, overlaps}
+use Rattle.og_join.specs.Tried.{rows_pass, meets_some, AreJoined}
 use Rattle.og_join.proofs.PlaceTests.{list_any-overlaps, length-overlaps}
-
-module _ {E : Type 0} (lo : E → ℤ) where
-  -- none of the first spans begins before the day
-  NoneBelow-take : (day : ℤ) (xs : List E) (n : ℕ) → NoneBelow lo day xs → NoneBelow lo day (take n xs)
-  NoneBelow-take day xs zero none = tt
-  NoneBelow-take day [] (suc n) none = tt
-  NoneBelow-take day (x ∷ xs) (suc n) none = (none.0, NoneBelow-take day xs n none.1)
-
-  -- the first spans rise too
-  pub Rises-take : (xs : List E) (n : ℕ) → Rises lo xs → Rises lo (take n xs)
-  Rises-take xs zero up = tt
-  Rises-take [] (suc n) up = tt
-  Rises-take (x ∷ xs) (suc n) up = (NoneBelow-take (lo x) xs n up.0, Rises-take xs n up.1)
 
 -- as many places as of spans that overlap are at most the product of spans
 pub places_size : (ls rs : List Outer) (places given : List (ℕ × ℕ)) → given ≡ places → IsPermutation places (overlaps (λ o. o.lo) (λ o. o.hi) 0 0 ls rs) → length given ≤ length ls * length rs
 places_size ls rs places given e moved =
     subst (λ n. n ≤ length ls * length rs) (length_permutation _ _ moved ∙ sym (ap length e)) (length-overlaps (λ o. o.lo) (λ o. o.hi) 0 0 ls rs)
+
+-- a test of the rows of the spans at places that overlap is one of the rows of spans that do
+pub pairs_of_places : (t : ℕ → ℕ → Bool) (ls rising rs : List Outer) (places given : List (ℕ × ℕ)) → IsPermutation ls rising → given ≡ places → IsPermutation places (overlaps (λ o. o.lo) (λ o. o.hi) 0 0 rising rs)
+    → list_any (rows_pass t rising rs) given ≡ list_any (λ a. list_any (λ b. overlap (λ o. o.lo) (λ o. o.hi) a b && t a.row b.row) rs) ls
+pairs_of_places t ls rising rs places given same e moved =
+    ap (list_any (rows_pass t rising rs)) e
+    ∙ list_any-IsPermutation (rows_pass t rising rs) _ _ moved
+    ∙ list_any-overlaps (λ o. o.lo) (λ o. o.hi) (rows_pass t rising rs) (λ a b. t a.row b.row) 0 0 rising rs
+    (λ m k. ap₂ (λ i j. rows_pass t rising rs (i, j)) (omega arith) (omega arith))
+    ∙ sym (list_any-IsPermutation (λ a. list_any (λ b. overlap (λ o. o.lo) (λ o. o.hi) a b && t a.row b.row) rs) ls rising same)
 
 -- the product with more on the left
 more_size : (made more whole done block both rights : ℕ) → made ≤ done * rights → more ≤ block * rights → whole ≡ made + more → both ≡ done + block → whole ≤ both * rights
@@ -40,17 +36,6 @@ not_zero : (n : ℕ) → (suc n == 0) ≡ true → ⊥
 not_zero n e = grind (arith, e)
 
 module _ {R F : Type 0} (glued : F → F → F) (image : ℤ → F → F) (at : R → ℤ → F) (holds : ℤ → F → Bool) (left right : List (R × List Range)) (rs : List Outer) where
-  -- what is made of the pairs of places that overlap is what the left spans are joined to
-  pub joined_of_places : (ls : List Outer) (places : List (ℕ × ℕ)) (made : List (R × List Range)) → IsPermutation places (overlaps (λ o. o.lo) (λ o. o.hi) 0 0 ls rs)
-      → ((t : F → Bool) (d : ℤ) → IsRefDay d → list_any t (present at made d) ≡ list_any (λ p. spans_meet glued at holds left right ls rs p (λ x. t (image d x)) d) places)
-      → AreJoined glued image at holds left right rs ls made
-  joined_of_places ls places made moved met t d r =
-      let u : F → Bool = λ x. t (image d x) in
-      met t d r
-      ∙ list_any-IsPermutation (λ p. spans_meet glued at holds left right ls rs p u d) _ _ moved
-      ∙ list_any-overlaps (λ o. o.lo) (λ o. o.hi) (λ p. spans_meet glued at holds left right ls rs p u d) (λ a b. rows_meet glued at holds left right a.row b.row u d) 0 0 ls rs
-      (λ m k. ap₂ (λ i j. spans_meet glued at holds left right ls rs (i, j) u d) (omega arith) (omega arith))
-
   -- what some first spans are joined to, and more spans
   AreJoined-append : (xs ys : List Outer) (made more : List (R × List Range)) → AreJoined glued image at holds left right rs xs made → AreJoined glued image at holds left right rs ys more
       → AreJoined glued image at holds left right rs (xs ++ ys) (made ++ more)

@@ -5,13 +5,11 @@ use Rattle.std.proofs.lemmas.List.{length-append}
 use Rattle.std.proofs.lemmas.List.Folds.{list_any-append}
 use Rattle.og_base.specs.Calendar.{IsRefDay}
 use Rattle.og_base.specs.Ranges.{Range, holds_day}
-use Rattle.og_base.specs.declared.comparison.Outer.{Outer}
 use Rattle.og_ops.specs.declared.pair.Hit.{Hit}
 use Rattle.og_ops.specs.Days.{is_hit}
 use Rattle.og_par.specs.Phase.{MadeOfEach}
 use Rattle.og_rel.specs.Relations.{present}
 use Rattle.og_join.specs.Hits.{stored_hits}
-use Rattle.og_join.specs.Places.{is_at}
 use Rattle.og_join.specs.Tried.{do_meet, rows_meet, IsMadeOf}
 use Rattle.og_join.proofs.HitLemmas.{present-hits, present-hit}
 use Rattle.og_join.proofs.PlaceTests.{at_both-get}
@@ -67,10 +65,3 @@ module _ {R F : Type 0} (glued : F → F → F) (at : R → ℤ → F) (holds : 
   pub rows_meet-hit : (image : F → F) (t : F → Bool) (h : Hit R) → holds_day h.days d ≡ is_hit glued holds (at p.0) (at q.0) p.1 q.1 d → at h.row d ≡ image (glued (at p.0 d) (at q.0 d))
       → list_any t (present at (stored_hits (h ∷ [])) d) ≡ rows_meet glued at holds left right m n (λ x. t (image x)) d
   rows_meet-hit image t h days row = any_hit at h t d (is_hit glued holds (at p.0) (at q.0) p.1 q.1 d) (image (glued (at p.0 d) (at q.0 d))) days row ∙ met (λ x. t (image x))
-
--- what is made of the rows of two spans is made of the places of the spans
-pub made_of_places : {R F : Type 0} (image : ℤ → F → F) (at : R → ℤ → F) (meet : ℕ → ℕ → (F → Bool) → ℤ → Bool) (ls rs : List Outer) (i j : ℕ) (a b : Outer) (made : List (Hit R))
-    → i < length ls → j < length rs → a ≡ get_or ls i a → b ≡ get_or rs j b → IsMadeOf image at (meet a.row b.row) made
-    → IsMadeOf image at (λ t d. is_at (λ x. is_at (λ y. meet x.row y.row t d) rs j) ls i) made
-made_of_places image at meet ls rs i j a b made left_place right_place left_is right_is h =
-    (h.0, λ t d r. h.1 t d r ∙ sym (at_both-get (λ x y. meet x.row y.row (λ z. t (image d z)) d) ls rs i j a b left_place right_place left_is right_is))

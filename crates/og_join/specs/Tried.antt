@@ -36,10 +36,9 @@ do_meet glued at holds t d p q = is_hit glued holds (at p.0) (at q.0) p.1 q.1 d 
 abbrev pub rows_meet : {R F : Type 0} → (F → F → F) → (R → ℤ → F) → (ℤ → F → Bool) → List (R × List Range) → List (R × List Range) → ℕ → ℕ → (F → Bool) → ℤ → Bool
 rows_meet glued at holds left right m n t d = is_at (λ p. is_at (do_meet glued at holds t d p) right n) left m
 
--- there are spans at both places, and their rows meet
-abbrev pub spans_meet : {R F : Type 0} → (F → F → F) → (R → ℤ → F) → (ℤ → F → Bool) → List (R × List Range) → List (R × List Range) → List Outer → List Outer → ℕ × ℕ → (F → Bool) → ℤ → Bool
-spans_meet glued at holds left right ls rs places t d =
-    is_at (λ a. is_at (λ b. rows_meet glued at holds left right a.row b.row t d) rs places.1) ls places.0
+-- there are spans at both places, and the test holds of the places of their rows
+abbrev pub rows_pass : (ℕ → ℕ → Bool) → List Outer → List Outer → ℕ × ℕ → Bool
+rows_pass t ls rs places = is_at (λ a. is_at (λ b. t a.row b.row) rs places.1) ls places.0
 
 -- some of the right spans overlaps the span, and the rows of the two meet
 abbrev pub meets_some : {R F : Type 0} → (F → F → F) → (R → ℤ → F) → (ℤ → F → Bool) → List (R × List Range) → List (R × List Range) → List Outer → (F → Bool) → ℤ → Outer → Bool

@@ -20,6 +20,7 @@ mod hits;
 mod keys;
 mod laws;
 mod outers;
+mod row_pairs;
 mod same_key;
 mod sought;
 mod span_key;

@@ -1,6 +1,7 @@
 //! The spans of the rows of a relation, in rising order.
 ghost use Rattle.std.specs.Prelude.{◌≡◌, ◌+◌, ◌<◌, ◌≤◌, ◌||◌, ℤ, Bool, List, IfOk, OnOk, length, slice_index_or};
 ghost use Rattle.std.specs.List.{list_any};
+ghost use Rattle.std.specs.List.Sorted.{IsPermutation};
 ghost use Rattle.og_base.specs.Ranges.{Range};
 ghost use Rattle.og_base.specs.declared.range.FixedPeriod.{FixedPeriod};
 ghost use Rattle.og_join.specs.Overlaps.{Rises};
@@ -59,18 +60,32 @@ pub(crate) fn rising_spans<R, S: SpanOf<R>>(
     ensures rows { IfOk result (λ v. AreSpansOf (S.span_of side.now) rel.now v.items) }
     ensures size { IfOk result (λ v. length v.items ≤ length rel.now) }
 {
-    let mut spans = spans_of(alloc, rel, side)?;
-    spans.sort_by_key(
+    let spans = spans_of(alloc, rel, side)?;
+    in_rising_order(alloc, spans.as_slice())
+}
+
+// The spans in rising order of their first days.
+pub(crate) fn in_rising_order(alloc: Global, spans: &[Outer]) -> Result<Vec<Outer>, NoMemory>
+    ensures rises { IfOk result (λ v. Rises (λ o. o.lo) v.items) }
+    ensures same { IfOk result (λ v. IsPermutation spans.now v.items) }
+{
+    let mut rising = Vec::with_capacity(alloc, spans.len())?;
+    rising.extend_from_slice(spans)?;
+    rising.sort_by_key(
         |span: &Outer| -> ExtDay
             ensures { result ≡ span.now.lo }
         { span.lo },
     )?;
-    Ok(spans)
+    Ok(rising)
 }
 
 // The spans of the rows, but those without days, with the places of their rows, in the order of the
 // relation.
-fn spans_of<R, S: SpanOf<R>>(alloc: Global, rel: &Rel<R>, side: &S) -> Result<Vec<Outer>, NoMemory>
+pub(crate) fn spans_of<R, S: SpanOf<R>>(
+    alloc: Global,
+    rel: &Rel<R>,
+    side: &S,
+) -> Result<Vec<Outer>, NoMemory>
     ensures rows { IfOk result (λ v. AreSpansOf (S.span_of side.now) rel.now v.items) }
     ensures size { IfOk result (λ v. length v.items ≤ length rel.now) }
 {

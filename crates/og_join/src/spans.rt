@@ -9,7 +9,7 @@ ghost use Rattle.og_join.specs.Joined as meant;
 ghost use Rattle.og_join.specs.Joined.{joined, AreTold};
 
 use crate::blocks::join_block;
-use crate::outers::{OfLeft, OfRight, rising_spans};
+use crate::outers::{OfLeft, OfRight, rising_spans, spans_of};
 use crate::tries::TryPair;
 use og_base::{DayCond, ExtDay, FixedPeriod, Glue, Instant, NoMemory};
 use og_ops::{PairMap, Whole};
@@ -104,9 +104,9 @@ where
 
 /// On every day what the map makes of the pairs of rows for which, glued, the condition holds, where it
 /// holds on no day of two rows whose spans are empty or do not overlap. Rows with an empty span are left
-/// out, the others sorted by the first days of their spans. The left ones are cut into blocks; of each
-/// block the pairs whose spans overlap are shared out among the workers and tried. At most the product
-/// of rows. Refused only for want of memory.
+/// out. The left ones are cut into blocks; of each block the pairs whose spans overlap are found by the
+/// first days of these, and shared out among the workers and tried in the order of the left rows. At most
+/// the product of rows. Refused only for want of memory.
 pub fn overlap_join_with<
     H: Threads + Sync,
     R: Glue + Drop + Sync + Send,
@@ -135,22 +135,20 @@ where
         (relation_at R.Fixed.cmp R.meaning left.now d) (relation_at R.Fixed.cmp R.meaning right.now d)))) }
     ensures size { IfOk result (λ r. length r ≤ length left.now * length right.now) }
 {
-    let lefts = rising_spans(alloc, left, &OfLeft { spans })?;
+    let lefts = spans_of(alloc, left, &OfLeft { spans })?;
     let rights = rising_spans(alloc, right, &OfRight { spans })?;
     let right_spans = rights.as_slice();
+    let pair = TryPair {
+        left,
+        right,
+        cond,
+        pair_map,
+    };
     let mut joined = Rel::new(alloc);
     let mut rest = lefts.as_slice();
     'cuts: while !rest.is_empty() {
-        let (left_spans, later) = rest.split_at(rest.len().min(BLOCK));
-        let block = TryPair {
-            left,
-            right,
-            left_spans,
-            right_spans,
-            cond,
-            pair_map,
-        };
-        joined.append(join_block(rt, alloc, workers, &block, gate)?)?;
+        let (block, later) = rest.split_at(rest.len().min(BLOCK));
+        joined.append(join_block(rt, alloc, workers, block, right_spans, &pair, gate)?)?;
         rest = later;
     }
     Ok(joined)

@@ -1,33 +1,31 @@
-//! Pairs of rows that are tried, by the places of their spans.
+//! Pairs of rows that are tried, by their places.
 ghost use Rattle.std.specs.Prelude.{◌≡◌, ◌++◌, List, OnOk};
 ghost use Rattle.og_ops.specs.declared.pair.Hit.{Hit};
 ghost use Rattle.og_join.specs.Tried.{IsMadeOf, rows_meet};
 
-use og_base::{DayCond, Glue, NoMemory, Outer};
+use og_base::{DayCond, Glue, NoMemory};
 use og_ops::{Hit, PairMap, test_pair_with};
 use og_par::Piece;
 use og_rel::Rel;
 use std::alloc::Global;
 
-// Makes of a pair of places of spans what the map makes of their rows, where it has days.
+// Makes of the places of two rows what the map makes of these, where it has days.
 #[derive(Drop)]
 pub(crate) struct TryPair<'a, R, C, M> {
     pub(crate) left: &'a Rel<R>,
     pub(crate) right: &'a Rel<R>,
-    pub(crate) left_spans: &'a [Outer],
-    pub(crate) right_spans: &'a [Outer],
     pub(crate) cond: &'a C,
     pub(crate) pair_map: &'a M,
 }
 
 impl<'a, R: Glue + Drop, C: DayCond<R>, M: PairMap<R>> Piece<(usize, usize)>
     for TryPair<'a, R, C, M> {
-    ghost use Rattle.og_join.specs.Tried.{IsMadeOf, spans_meet};
+    ghost use Rattle.og_join.specs.Tried.{IsMadeOf, rows_meet};
 
     type Out = Hit<R>;
 
     ghost gives = { λ piece places made. IsMadeOf (M.image piece.pair_map.now) R.meaning
-        (spans_meet R.glued R.meaning (C.holds piece.cond.now) piece.left.now piece.right.now piece.left_spans.now piece.right_spans.now places) made };
+        (rows_meet R.glued R.meaning (C.holds piece.cond.now) piece.left.now piece.right.now places.0 places.1) made };
 
     fn make(
         &self,
@@ -35,22 +33,17 @@ impl<'a, R: Glue + Drop, C: DayCond<R>, M: PairMap<R>> Piece<(usize, usize)>
         item: &(usize, usize),
         out: &mut Vec<Hit<R>>,
     ) -> Result<(), NoMemory> {
-        let (i, j) = *item;
-        let lefts = self.left_spans;
-        let rights = self.right_spans;
-        if i < lefts.len() && j < rights.len() {
-            try_rows(
-                alloc,
-                self.left,
-                lefts[i].row,
-                self.right,
-                rights[j].row,
-                self.cond,
-                self.pair_map,
-                out,
-            )?;
-        }
-        Ok(())
+        let (m, n) = *item;
+        try_rows(
+            alloc,
+            self.left,
+            m,
+            self.right,
+            n,
+            self.cond,
+            self.pair_map,
+            out,
+        )
     }
 }
 

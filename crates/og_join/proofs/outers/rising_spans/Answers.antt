@@ -1,12 +1,15 @@
-use Rattle.std.proofs.Common.{sym, ◌∙◌, rules}
-use Rattle.std.proofs.lemmas.Fn.{always_returns_same}
-use Rattle.std.proofs.lemmas.List.Sorted.{list_any-IsPermutation}
+use Rattle.std.proofs.Common.{sym, ap, length, arith, ◌∙◌}
+use Rattle.std.specs.List.{list_any}
+use Rattle.std.proofs.lemmas.List.Sorted.{list_any-IsPermutation, length_permutation}
+use Rattle.std.proofs.lemmas.Result.{IfOk-weaker}
 use Rattle.og_join.specs.Tried.{at_row}
-use Rattle.og_join.proofs.SpanLemmas.{Rises-sorted}
 use Rattle.og_join.proofs.outers.rising_spans.Goals as goal
 
-pub returns-clause-rises : goal.returns-clause-rises
-returns-clause-rises g c = Rises-sorted (λ o. o.lo) _ (c.in_ok-sort_by_key.ensures.sorted (λ o. o.lo) (always_returns_same _ _ _ (λ a r f k. search rules)))
-
 pub returns-clause-rows : goal.returns-clause-rows
-returns-clause-rows g c t = sym (list_any-IsPermutation (at_row t c.args.rel.now) _ _ c.in_ok-sort_by_key.ensures.permutation) ∙ c.in_ok-spans.ensures.rows t
+returns-clause-rows g c =
+    IfOk-weaker c.in_rising_order.result _ _ (λ v same t. sym (list_any-IsPermutation (at_row t c.args.rel.now) c.as_slice.result.now v.items same)
+    ∙ ap (list_any (at_row t c.args.rel.now)) c.as_slice.ensures.value ∙ c.in_ok-spans.ensures.rows t) c.in_rising_order.ensures.same
+
+pub returns-clause-size : goal.returns-clause-size
+returns-clause-size g c =
+    IfOk-weaker c.in_rising_order.result _ _ (λ v same. omega (arith, length_permutation c.as_slice.result.now v.items same, ap length c.as_slice.ensures.value, c.in_ok-spans.ensures.size)) c.in_rising_order.ensures.same
