@@ -1,3 +1,4 @@
+pub mod FieldLemmas
 pub mod LayoutLemmas
 pub mod LongestLemmas
 pub mod PutLemmas

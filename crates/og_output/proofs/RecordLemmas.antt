@@ -1,17 +1,13 @@
 -- Records, one more after the others, and which name is held at a place.
-use Rattle.std.proofs.Common.{◌≡◌, ◌<◌, ◌+◌, ◌++◌, ◌∷◌, ◌∙◌, ℕ, zero, suc, false, List, [], Some, length, map, take, get_or, refl, sym, ap, arith, append_assoc, Vec}
+use Rattle.std.proofs.Common.{◌≡◌, ◌<◌, ◌+◌, ◌++◌, ◌∷◌, ◌∙◌, ℕ, zero, suc, false, List, [], Some, length, map, take, get_or, refl, sym, ap, arith, append_assoc}
 use Rattle.std.specs.List.{AllByRecursion, IsDistinct}
-use Rattle.std.specs.declared.alloc.Global.{Global}
 use Rattle.std.specs.Option.{option_map}
 use Rattle.std.specs.Bool.{one_answer}
 use Rattle.std.specs.Str.{bytes_eq}
 use Rattle.std.proofs.lemmas.Map.Keys.{IsDistinct-head, IsDistinct-tail}
 use Rattle.std.proofs.lemmas.Slice.Eq.{bytes_eq-Decides}
-use Rattle.std.proofs.lemmas.List.{flat_map_more, map-append, take_more}
+use Rattle.std.proofs.lemmas.List.{append-nil, flat_map_more, map-append, take_more}
 use Rattle.csv.specs.Writing.{default_writer, row_text}
-use Rattle.csv.specs.declared.writer.Writer.{Writer}
-use Rattle.csv.proofs.RoundTrip.{rows_text}
-use Rattle.og_file.specs.Writers.{HasText}
 use Rattle.og_db.specs.Held.{Held, described, found, known_of}
 use Rattle.og_output.specs.Records.{records}
 
@@ -20,14 +16,10 @@ pub records-push : (rows : List (List (List ℕ))) (row : List (List ℕ)) → r
 unfolding records
 records-push rows row = sym (flat_map_more (row_text default_writer) [] rows row)
 
--- no record, in csv's word and in ours
-pub none_written : (w : Writer (Vec ℕ Global)) → HasText w (rows_text []) → HasText w (records [])
-unfolding rows_text records
-none_written w had = had
-
--- the first record
-pub records-first : (row : List (List ℕ)) → records (row ∷ []) ≡ records [] ++ row_text default_writer row
-records-first row = records-push [] row
+-- one record alone
+pub records-one : (row : List (List ℕ)) → records (row ∷ []) ≡ row_text default_writer row
+unfolding records
+records-one row = append-nil (row_text default_writer row)
 
 -- some records and those of a list's elements up to a place, and of one more
 pub records-more : {A : Type 0} (front : List (List (List ℕ))) (f : A → List (List ℕ)) (xs : List A) (i : ℕ) (other : A) → i < length xs

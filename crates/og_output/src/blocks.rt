@@ -2,7 +2,7 @@
 ghost use Rattle.std.specs.Prelude.{◌≡◌, IfOk};
 ghost use Rattle.std.specs.List.{flat_map};
 
-use crate::records::rows_text;
+use crate::rows::rows_text;
 use og_base::NoMemory;
 use og_par::Piece;
 use og_value::FixedRow;

@@ -11,10 +11,12 @@
 
 mod blocks;
 mod calendar;
+mod fields;
 mod freeze;
 mod puts;
 mod range;
 mod records;
+mod rows;
 
 pub use puts::{put, put_fault, put_plan, put_relation};
 pub use range::layout_range;
