@@ -1,8 +1,8 @@
 -- Steps of the walk over two rising lists: what was found and what is left make up the same pairs.
-use Rattle.std.proofs.Common.{◌≡◌, ◌+◌, ◌<◌, ◌≤◌, ◌++◌, ◌⊎◌, ◌<ℤ◌, ◌≤ℤ◌, ℕ, ℤ, false, IsTrue, ◌↔◌, inl, inr, List, [], ◌∷◌, ◌-◌, take, length, get_or, drop, refl, sym, ap, ◌∙◌, subst, IsPermutation, arith}
+use Rattle.std.proofs.Common.{◌≡◌, ◌+◌, ◌*◌, ◌<◌, ◌≤◌, ◌++◌, ◌⊎◌, ◌<ℤ◌, ◌≤ℤ◌, ℕ, ℤ, false, IsTrue, ◌↔◌, Result, Ok, Err, OnErr, inl, inr, List, [], ◌∷◌, ◌-◌, take, length, get_or, drop, refl, sym, ap, ◌∙◌, subst, IsPermutation, arith}
 use Rattle.std.proofs.lemmas.Int.{ints}
 use Rattle.std.proofs.lemmas.List.{append-nil, append_assoc, drop_all, drop_more, length-append, length-drop, take_all}
-use Rattle.std.proofs.lemmas.List.Sorted.{IsPermutation-refl, IsPermutation-sym, IsPermutation-append_right}
+use Rattle.std.proofs.lemmas.List.Sorted.{IsPermutation-refl, IsPermutation-sym, IsPermutation-append_right, length_permutation}
 use Rattle.og_join.specs.Overlaps.{Rises, overlaps}
 use Rattle.og_join.specs.Sweep.{reach_of, row_places, column_places, column_overlaps}
 use Rattle.og_join.proofs.OverlapLemmas.{NoneBelow-rising, Rises-drop, overlaps-column, row_overlaps-reach, column_overlaps-reach}
@@ -22,6 +22,23 @@ no_later x y h = grind (arith, ints, h)
 -- the pairs found grow by so many, and the steps by no more than two above that
 pub found_cost : {X : Type 0} (old new more : List X) (n before between after : ℕ) → new ≡ old ++ more → length more ≡ n → between ≡ before + 1 → after ≤ between + n + 1 → after + length old ≤ before + 2 + length new
 found_cost old new more n before between after e m b h = rw (e, length-append old more) (omega (arith, m, b, h))
+
+-- what holds anyway holds where there is an error
+pub on_err_always : {T E P : Type 0} (r : Result T E) → P → OnErr r P
+on_err_always (Ok x) h = tt
+on_err_always (Err e) h = h
+
+-- the steps of what begins first are not more than the pairs that are left, and two
+pub refused_cost : {X : Type 0} (places rest all : List X) (n before between after : ℕ) → IsPermutation (places ++ rest) all → length places ≡ n → between ≡ before + 1 → after ≤ between + n + 1 → after ≤ before + 2 + length all
+refused_cost places rest all n before between after same m b h = omega (arith, length_permutation (places ++ rest) all same, length-append places rest, m, b, h)
+
+-- the steps of a walk that ends here, and what was found is some of all
+pub whole_cost : {X : Type 0} (found rest all : List X) (i j n m before now : ℕ) → IsPermutation (found ++ rest) all → i ≤ n → j ≤ m → now ≤ before + 2 * (i + j) + length found → now ≤ before + 2 * (n + m) + length all
+whole_cost found rest all i j n m before now same p q h = omega (arith, length_permutation (found ++ rest) all same, length-append found rest, p, q, h)
+
+-- the steps of a walk that is refused in the middle
+pub stopped_cost : {X : Type 0} (found rest all : List X) (i j n m before between now : ℕ) → IsPermutation (found ++ rest) all → i < n → j < m → between ≤ before + 2 * (i + j) + length found → now ≤ between + 2 + length rest → now ≤ before + 2 * (n + m) + length all
+stopped_cost found rest all i j n m before between now same p q h k = omega (arith, length_permutation (found ++ rest) all same, length-append found rest, p, q, h, k)
 
 module _ {E : Type 0} (lo hi : E → ℤ) (spans : (e : E) → lo e <ℤ hi e) (ls rs : List E) (left_rises : Rises lo ls) (right_rises : Rises lo rs) (i j : ℕ) (l r : E) (left_place : i < length ls) (right_place : j < length rs) (left_is : l ≡ get_or ls i l) (right_is : r ≡ get_or rs j r) where
   -- the left spans from a place on rise

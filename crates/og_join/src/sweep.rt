@@ -1,5 +1,5 @@
 //! The pairs of spans that overlap, by one walk over two lists in rising order.
-ghost use Rattle.std.specs.Prelude.{◌≡◌, ◌+◌, ◌*◌, ◌^◌, ◌<◌, ◌≤◌, ◌++◌, IfOk, OnOk, length, drop};
+ghost use Rattle.std.specs.Prelude.{◌≡◌, ◌+◌, ◌*◌, ◌^◌, ◌<◌, ◌≤◌, ◌++◌, IfOk, OnOk, OnErr, length, drop};
 ghost use Rattle.std.specs.List.Sorted.{IsPermutation};
 ghost use Rattle.og_join.specs.Overlaps.{Rises, overlaps};
 ghost use Rattle.og_join.specs.Sweep.{reach_of, row_places, column_places, rest_of};
@@ -9,8 +9,8 @@ use std::alloc::Global;
 use std::sync::ledger::Ledger;
 
 /// The pairs of places of left and right spans that overlap, each once, in any order. Each list has
-/// to rise by `lo`. Counts at most two steps for each span and one for each pair. Refused only for
-/// want of memory; the counter then keeps the steps that were made.
+/// to rise by `lo`. Counts at most two steps for each span and one for each pair, also where it is refused:
+/// only for want of memory, and the counter then keeps the steps that were made.
 pub fn candidates<L: Ledger, E: Envelope<L>>(
     alloc: Global,
     left: &[E],
@@ -21,6 +21,8 @@ pub fn candidates<L: Ledger, E: Envelope<L>>(
     requires right_rises { Rises E.lo right.now }
     ensures exact { IfOk result (λ v. IsPermutation v.items (overlaps E.lo E.hi 0 0 left.now right.now)) }
     ensures cost { IfOk result (λ v. steps.new ≤ steps.old + 2 * (length left.now + length right.now) + length v.items) }
+    ensures bound { steps.new ≤ steps.old + 2 * (length left.now + length right.now) + length (overlaps E.lo E.hi 0 0 left.now right.now) }
+    ensures later { steps.old ≤ steps.new }
 {
     let mut found = Vec::new(alloc);
     let mut i = 0;
@@ -52,6 +54,8 @@ fn pair_first<L: Ledger, E: Envelope<L>>(
         (found.new.items ++ rest_of E.lo E.hi first i j left.now right.now)
         (found.old.items ++ overlaps E.lo E.hi i j (drop i left.now) (drop j right.now))) }
     ensures cost { OnOk result (steps.new + length found.old.items ≤ steps.old + 2 + length found.new.items) }
+    ensures refused { OnErr result (steps.new ≤ steps.old + 2 + length (overlaps E.lo E.hi i j (drop i left.now) (drop j right.now))) }
+    ensures later { steps.old ≤ steps.new }
 {
     let first = &left[i];
     let second = &right[j];
@@ -70,6 +74,7 @@ fn pair_first<L: Ledger, E: Envelope<L>>(
 fn reach<L: Ledger, E: Envelope<L>>(span: &E, others: &[E], steps: &mut Steps<L>) -> usize
     ensures value { result ≡ reach_of E.lo (E.hi span.now) others.now }
     ensures cost { steps.new ≤ steps.old + result + 1 }
+    ensures later { steps.old ≤ steps.new }
     ensures most { result ≤ length others.now }
 {
     let mut count = 0;

@@ -8,6 +8,7 @@ invariant-sweep g l = record {
   right_place : l.j ≤ length l.right;
   exact : IsPermutation (l.found.items ++ overlaps g.E.Envelope.lo g.E.Envelope.hi l.i l.j (drop l.i l.left) (drop l.j l.right)) (overlaps g.E.Envelope.lo g.E.Envelope.hi 0 0 l.left l.right);
   cost : l.steps ≤ l.initial.steps + 2 * (l.i + l.j) + length l.found.items;
+  later : l.initial.steps ≤ l.steps;
 }
 
 abbrev pub decreases-sweep : goal.decreases-sweep

@@ -7,4 +7,5 @@ invariant-others g l = record {
   value : reach_of g.E.Envelope.lo (g.E.Envelope.hi l.span) l.others ≡ l.count + reach_of g.E.Envelope.lo (g.E.Envelope.hi l.span) (drop l.count l.others);
   place : l.count ≡ l.other-index;
   cost : l.steps ≤ l.initial.steps + l.count;
+  later : l.initial.steps ≤ l.steps;
 }
