@@ -1,4 +1,5 @@
 pub mod Fronts
+pub mod HasTexts
 pub mod Lexing
 pub mod Longest
 pub mod Meanings

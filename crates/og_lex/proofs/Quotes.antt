@@ -1,7 +1,8 @@
 -- Quotes, doubled and single.
-use Rattle.std.proofs.Common.{◌≡◌, ℕ, suc, ◌+◌, ◌<◌, ◌&&◌, not, ◌==◌, Bool, true, false, cond, List, [], ◌∷◌, ◌++◌, length, get_or, drop, slice_index, Some, refl, ap, ap₂, subst, sym, ◌∙◌, append_assoc, arith}
+use Rattle.std.proofs.Common.{◌≡◌, ℕ, suc, ◌+◌, ◌<◌, ◌&&◌, ◌||◌, not, ◌==◌, Bool, true, false, cond, List, [], ◌∷◌, ◌++◌, length, get_or, drop, slice_index, Some, refl, ap, ap₂, subst, sym, ◌∙◌, append_assoc, arith}
 use Rattle.std.proofs.lemmas.Bool.Decides.{Decides-eqb}
 use Rattle.std.proofs.lemmas.Str.{IsUtf8-append, IsUtf8-nil, encode_ascii, IsUtf8-take, IsUtf8-drop, IsCharBoundary-before_ascii, IsCharBoundary-after_ascii}
+use Rattle.std.specs.List.{list_any}
 use Rattle.std.specs.Str.{IsUtf8}
 use Rattle.og_lex.specs.Bytes.{is_quote, doubled, Stops}
 use Rattle.og_lex.specs.Front.{closing, single_quotes}
@@ -105,6 +106,15 @@ single_quotes-doubled (b ∷ content) = by (is_quote b) refl (single_quotes-doub
         → single_quotes false (cond t (39 ∷ 39 ∷ doubled content) (b ∷ doubled content)) ≡ b ∷ content
     by true e more = ap₂ (λ x xs. x ∷ xs) (sym ((Decides-eqb b 39).0 e)) more
     by false e more = ap (λ xs. b ∷ xs) (ap (λ t. single_quotes t (doubled content)) e ∙ more)
+
+-- bytes without a quote are left as they are
+pub single_quotes-none : (z : List ℕ) → list_any (λ b. b == 39) z ≡ false → single_quotes false z ≡ z
+single_quotes-none [] e = refl
+single_quotes-none (b ∷ z) e = go (b == 39) e (single_quotes-none z)
+  where
+    go : (q : Bool) → (q || list_any (λ b. b == 39) z) ≡ false → (list_any (λ b. b == 39) z ≡ false → single_quotes false z ≡ z) → b ∷ single_quotes q z ≡ b ∷ z
+    go true h rest = cc
+    go false h rest = ap (λ y. b ∷ y) (rest h)
 
 pub doubled-same : (xs ys : List ℕ) → doubled xs ≡ doubled ys → xs ≡ ys
 doubled-same xs ys e = sym (single_quotes-doubled xs) ∙ (ap (single_quotes false) e ∙ single_quotes-doubled ys)

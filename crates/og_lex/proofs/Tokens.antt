@@ -66,7 +66,7 @@ kinds-lexed script tokens h = kinds-reads [] refl h
 
 -- ---- texts
 
-quoted-same : (xs ys : List ℕ) → quoted xs ≡ quoted ys → xs ≡ ys
+pub quoted-same : (xs ys : List ℕ) → quoted xs ≡ quoted ys → xs ≡ ys
 quoted-same xs ys e =
     let tails : doubled xs ++ 39 ∷ [] ≡ doubled ys ++ 39 ∷ [] = ap (drop 1) e in
     let lens : length (doubled xs) ≡ length (doubled ys) = omega (arith, ap length tails, length-append (doubled xs) (39 ∷ []), length-append (doubled ys) (39 ∷ [])) in

@@ -1,11 +1,12 @@
 -- The token at the front of the bytes, as a function, and the tokens of a script by it. It is a tool of the
 -- proofs: what tokens are is said by the grammar.
-use Rattle.std.specs.Prelude.{◌≡◌, ◌+◌, ◌-◌, ◌≤◌, ◌^◌, ◌&&◌, ◌==◌, ◌++◌, ℕ, zero, suc, ℤ, pos, negsuc, Bool, true, false, not, if◌then◌else◌, nat_lt, List, [], ◌∷◌, take, drop, slice_index, Option, Some, None, Result, Ok, Err, ⊤}
+use Rattle.std.specs.Prelude.{◌≡◌, ◌+◌, ◌-◌, ◌≤◌, ◌^◌, ◌&&◌, ◌==◌, ◌++◌, ℕ, zero, suc, ℤ, pos, negsuc, Bool, true, false, not, if◌then◌else◌, nat_lt, nat_le, List, [], ◌∷◌, length, take, drop, slice_index, slice_range, Option, Some, None, Result, Ok, Err, ⊤}
 use Rattle.std.specs.Char.{is_ascii_digit}
 use Rattle.std.specs.List.{prefix_len}
 use Rattle.std.specs.Str.{is_utf8}
 use Rattle.og_base.specs.Letters.{begins_word, is_in_word}
 use Rattle.og_lex.specs.Bytes.{is_blank, is_in_line, is_quote, value_after, signed}
+use Rattle.og_lex.specs.Grammar.{bytes_of}
 use Rattle.og_lex.specs.declared.front.Fault.{Fault}
 use Rattle.og_lex.specs.declared.front.Fault.TheVariants as faults
 use Rattle.og_lex.specs.declared.front.Front.{Front}
@@ -62,11 +63,27 @@ closed z (Some len) = if is_utf8 (take len z) then Piece Text (len + 2) else Bad
 unfoldable pub text : List ℕ → Front
 text z = closed z (closing false 0 z)
 
+-- the closing quote is the last of so many bytes
+abbrev pub ends_at : Option ℕ → ℕ → Bool
+ends_at None len = false
+ends_at (Some end) len = end + 1 == len
+
+-- a quote comes first, and the text that it begins ends with the bytes
+abbrev pub is_quoted : List ℕ → Bool
+is_quoted [] = false
+is_quoted (b ∷ z) = is_quote b && ends_at (closing false 0 z) (length z)
+
 -- the bytes without the second of each two quotes
 abbrev pub single_quotes : Bool → List ℕ → List ℕ
 single_quotes is_second [] = []
 single_quotes true (b ∷ z) = single_quotes false z
 single_quotes false (b ∷ z) = b ∷ single_quotes (is_quote b) z
+
+-- the content of a text token, where its bytes are a text
+unfoldable pub content_at : List ℕ → Token → Option (List ℕ)
+content_at script token =
+    if nat_le token.end (length script) && is_quoted (bytes_of script token)
+    then Some (single_quotes false (slice_range script (token.start + 1) (token.end - 1))) else None
 
 abbrev pub marked : Symbol → ℕ → Front
 marked symbol len = Piece (Sym symbol) len

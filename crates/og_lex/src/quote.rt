@@ -1,5 +1,5 @@
 //! Texts between quotes.
-ghost use Rattle.std.specs.Prelude.{◌≡◌, ◌+◌, ◌<◌, IfSome, IfOk, false, length};
+ghost use Rattle.std.specs.Prelude.{◌≡◌, ◌↔◌, ◌+◌, ◌<◌, IfSome, IfOk, IsTrue, false, length};
 ghost use Rattle.std.specs.Str.{is_utf8};
 ghost use Rattle.og_lex.specs.Front as spec;
 ghost use Rattle.og_lex.specs.Grammar.{HasText, IsTextAt};
@@ -9,6 +9,8 @@ use crate::run::byte_at;
 use crate::token::{Token, TokenKind};
 use og_base::NoMemory;
 use std::alloc::Global;
+use std::borrow::CowSlice;
+use std::marker::Model;
 
 /// The text at the front, by the bytes after its first quote.
 #[tactic(auto, unfolding(crate::specs::Front::text))]
@@ -52,17 +54,78 @@ fn closing(mut z: &[u8]) -> Option<usize>
     None
 }
 
+/// What stands between the quotes of a text, seen as its bytes: those of the script, or new ones where a
+/// quote stands among them.
+#[derive(Drop)]
+pub struct Unquoted<'a> {
+    bytes: CowSlice<'a, u8>,
+}
+
+impl<'a> Model for Unquoted<'a> {
+    ghost use Rattle.std.specs.Prelude.{List, ℕ};
+    ghost use Rattle.std.specs.Cow.{cow_slice_items};
+
+    ghost Value = { List ℕ };
+
+    ghost view = { λ c. cow_slice_items c.bytes };
+}
+
+impl<'a> Unquoted<'a> {
+    /// The bytes.
+    pub fn as_slice(&self) -> &[u8]
+        ensures { result.now ≡ self.now }
+    {
+        self.bytes.as_slice()
+    }
+}
+
+/// Whether the bytes of the token are a text.
+pub fn has_text(script: &[u8], token: &Token) -> bool
+    ensures { IsTrue result ↔ HasText script.now token.now }
+{
+    let (start, end) = (token.start, token.end);
+    start < end && end <= script.len() && is_quoted(&script[start..end])
+}
+
+// Whether a quote comes first, and the text that it begins ends with the bytes.
+fn is_quoted(z: &[u8]) -> bool
+    ensures { result ≡ spec.is_quoted z.now }
+{
+    let [b'\'', rest @ ..] = z else {
+        return false;
+    };
+    match closing(rest) {
+        Some(end) => end + 1 == rest.len(),
+        None => false,
+    }
+}
+
 /// The content of a text token of the script, with each doubled quote made single. The bytes of the
-/// token have to be a text. Refused where memory runs out.
-pub fn text_of(alloc: Global, script: &[u8], token: &Token) -> Result<Vec<u8>, NoMemory>
+/// token have to be a text. They are copied where a quote stands among them alone. Refused where
+/// memory runs out.
+pub fn text_of<'a>(alloc: Global, script: &'a [u8], token: &Token) -> Result<Unquoted<'a>, NoMemory>
     requires { HasText script.now token.now }
-    ensures content { IfOk result (λ content. IsTextAt script.now token.now content.items) }
+    ensures content { IfOk result (λ content. IsTextAt script.now token.now content) }
 {
     let inner = &script[token.start + 1..token.end - 1];
-    single(alloc, inner)
+    singled(alloc, inner)
 }
 
 // The bytes without the second of each two quotes.
+fn singled(alloc: Global, z: &[u8]) -> Result<Unquoted<'_>, NoMemory>
+    ensures { IfOk result (λ content. content ≡ spec.single_quotes false z.now) }
+{
+    if !z.contains(&b'\'') {
+        return Ok(Unquoted {
+            bytes: CowSlice::Borrowed(z),
+        });
+    }
+    Ok(Unquoted {
+        bytes: CowSlice::Owned(single(alloc, z)?),
+    })
+}
+
+// A copy of the bytes without the second of each two quotes.
 fn single(alloc: Global, mut z: &[u8]) -> Result<Vec<u8>, NoMemory>
     ensures { IfOk result (λ content. content.items ≡ spec.single_quotes false z.entry.now) }
 {

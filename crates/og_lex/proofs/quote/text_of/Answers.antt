@@ -11,8 +11,8 @@ returns c =
     let had = c.requires in
     let inner = inner-quoted c.args.script.now c.args.token.now.start c.args.token.now.end had.0 had.1.within had.1.between in
     record {
-      content = IfOk-weaker c.single.result _ _ (λ content e. record {
+      content = IfOk-weaker c.singled.result _ _ (λ content e. record {
         within = had.1.within;
         between = had.1.between ∙ ap quoted (sym (e ∙ (ap (single_quotes false) inner ∙ single_quotes-doubled had.0)));
-      }) c.single.ensures;
+      }) c.singled.ensures;
     }
