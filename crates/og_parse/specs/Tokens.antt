@@ -1,6 +1,5 @@
 -- The lexeme of each token of a script.
-use Rattle.std.specs.Prelude.{ℕ, ℤ, pos, List, [], ◌∷◌, map, codes, if◌then◌else◌}
-use Rattle.std.specs.Str.{str_eq_ignore_ascii_case}
+use Rattle.std.specs.Prelude.{ℕ, ℤ, pos, List, map}
 use Rattle.og_lex.specs.declared.symbol.Symbol.{Symbol}
 use Rattle.og_lex.specs.declared.symbol.Symbol.TheVariants as symbols
 use Rattle.og_lex.specs.declared.token.Token.{Token}
@@ -10,72 +9,7 @@ use Rattle.og_syntax.specs.declared.lexeme.Sort.{Sort}
 use Rattle.og_syntax.specs.declared.lexeme.Sort.TheVariants as k
 use Rattle.og_syntax.specs.declared.lexeme.Lexeme.{Lexeme}
 use Rattle.og_syntax.specs.Spans.{spelling}
-
--- the reserved words, those of literals first
-abbrev pub reserved : List (List ℕ × Sort)
-reserved =
-    (codes "date", k.Date) ∷
-    (codes "ongoing", k.Ongoing) ∷
-    (codes "period", k.Period) ∷
-    (codes "and", k.And) ∷
-    (codes "as", k.As) ∷
-    (codes "before", k.Before) ∷
-    (codes "common", k.Common) ∷
-    (codes "contains", k.Contains) ∷
-    (codes "create", k.Create) ∷
-    (codes "delete", k.Delete) ∷
-    (codes "drop", k.Drop) ∷
-    (codes "during", k.During) ∷
-    (codes "empty", k.Empty) ∷
-    (codes "end", k.End) ∷
-    (codes "equals", k.Equals) ∷
-    (codes "except", k.Except) ∷
-    (codes "exists", k.Exists) ∷
-    (codes "explain", k.Explain) ∷
-    (codes "finishes", k.Finishes) ∷
-    (codes "from", k.From) ∷
-    (codes "greatest", k.Greatest) ∷
-    (codes "import", k.Import) ∷
-    (codes "insert", k.Insert) ∷
-    (codes "int", k.Int) ∷
-    (codes "intersect", k.Intersect) ∷
-    (codes "into", k.Into) ∷
-    (codes "join", k.Join) ∷
-    (codes "keep", k.Keep) ∷
-    (codes "least", k.Least) ∷
-    (codes "live", k.Live) ∷
-    (codes "meets", k.Meets) ∷
-    (codes "not", k.Not) ∷
-    (codes "of", k.Of) ∷
-    (codes "on", k.On) ∷
-    (codes "open", k.Open) ∷
-    (codes "or", k.Or) ∷
-    (codes "overlaps", k.Overlaps) ∷
-    (codes "print", k.Print) ∷
-    (codes "save", k.Save) ∷
-    (codes "select", k.Select) ∷
-    (codes "set", k.Set) ∷
-    (codes "start", k.Start) ∷
-    (codes "starts", k.Starts) ∷
-    (codes "table", k.Table) ∷
-    (codes "tables", k.Tables) ∷
-    (codes "text", k.Text) ∷
-    (codes "to", k.To) ∷
-    (codes "union", k.Union) ∷
-    (codes "update", k.Update) ∷
-    (codes "valid", k.Valid) ∷
-    (codes "values", k.Values) ∷
-    (codes "where", k.Where) ∷
-    []
-
--- the sort that a list gives the word, without regard to ASCII case, and a name where it gives none
-abbrev pub sort_in : List (List ℕ × Sort) → List ℕ → Sort
-sort_in [] word = k.Name
-sort_in (entry ∷ entries) word = if str_eq_ignore_ascii_case entry.0 word then entry.1 else sort_in entries word
-
--- the sort of a word
-unfoldable pub sort_of_word : List ℕ → Sort
-sort_of_word = sort_in reserved
+use Rattle.og_syntax.specs.Words.{sort_of_word}
 
 -- the sort of a symbol
 abbrev pub sort_of_symbol : Symbol → Sort

@@ -4,9 +4,8 @@ ghost use Rattle.og_syntax.specs.Reading.{Gives};
 ghost use Rattle.og_parse.specs.StatementReader as spec;
 
 use og_base::{RefDay, read_ref_day};
-use og_syntax::{
-    CondText, Lexeme, Refusal, Sort, Unquoted, condition, expect, quoted, same_sort, sort_at,
-};
+use og_lex::Unquoted;
+use og_syntax::{CondText, Lexeme, Refusal, Sort, condition, expect, quoted, same_sort, sort_at};
 use std::alloc::Global;
 
 // The condition after WHERE, where it is there.

@@ -3,10 +3,9 @@ ghost use Rattle.std.specs.Prelude.{◌≡◌, ◌≤◌, length, OnOk};
 ghost use Rattle.og_parse.specs.Pieces.{piece_of};
 ghost use Rattle.og_parse.specs.Tokens as spec;
 
-use crate::keyword::sort_of_word;
 use og_base::NoMemory;
 use og_lex::{Symbol, Token, TokenKind};
-use og_syntax::{Lexeme, Sort, bytes_of, same_sort};
+use og_syntax::{Lexeme, Sort, bytes_of, same_sort, sort_of_word};
 
 /// Makes the list that of the lexemes of the first piece of the tokens, which ends with its semicolon or with
 /// the last token.

@@ -17,7 +17,6 @@ mod columns;
 mod depth;
 mod endings;
 mod files;
-mod keyword;
 mod laws;
 mod lexemes;
 mod parser;

@@ -19,7 +19,7 @@ use Rattle.og_syntax.specs.Rules as rules_
 use Rattle.og_syntax.specs.Spans.{spelling, IsDayValue, IsPointValue, IsPeriodValue}
 use Rattle.og_syntax.specs.Grammar.{IsName, IsQuoted, IsText, IsDayLit, IsPointLit, IsPeriodLit, IsLit, IsColumn, IsExprIn, IsExpr}
 use Rattle.og_parse.specs.Depth.{opened_after, is_set_word}
-use Rattle.og_parse.specs.Tokens.{sort_of_word}
+use Rattle.og_syntax.specs.Words.{sort_of_word}
 use Rattle.og_print.specs.Words.{Word, Plain, Named, Whole, Quoted, enclosed}
 use Rattle.og_print.specs.Expressions.{lit_words, func_sort, expr_words}
 use Rattle.og_print.proofs.Spelling.{SpellAll, AreProper, IsProper, is_inner}
@@ -99,7 +99,7 @@ again-text script printed = record {
         no_deeper = subst (λ a. IsNoDeeper (a ∷ []) (k.Quoted ∷ [])) (sym q.2.1) (no_deeper-same k.Quoted (λ n. refl));
         again = λ d seg tail short some sp.
             let o = one_spelled printed seg (Quoted x) sp in
-            (x, tail, (o.lexeme, tail, (ap (λ s. s ++ tail) o.whole, o.spells.0), (sym o.spells.1, refl)), ((subst IsUtf8 (sym h.3.0.1) h.3.0.0, refl), refl));
+            (x, tail, (o.lexeme, tail, (ap (λ s. s ++ tail) o.whole, o.spells.0), (o.spells.1, refl)), ((subst IsUtf8 (sym h.3.0.1) h.3.0.0, refl), refl));
       };
 }
 
@@ -126,11 +126,11 @@ again-marked script printed first second R R' w inner flat same = record {
         split = o.1 ∙ ap (λ m. o.0 ∷ m) (q.2.0 ∙ ap (λ m. t ∷ m) (sym (h.3.3.1 ∙ q.3.1)));
         vs = Plain second ∷ Quoted z ∷ [];
         words = both.0;
-        well = (inner, (subst IsUtf8 (sym q.3.0) (proper.text q.2.1), tt));
+        well = (inner, (proper.text z q.2.1 q.3.0, tt));
         no_deeper = subst (λ a. IsNoDeeper (a ∷ t.sort ∷ []) (second ∷ k.Quoted ∷ [])) (sym o.2) (subst (λ a. IsNoDeeper (first ∷ a ∷ []) (second ∷ k.Quoted ∷ [])) (sym q.2.1) flat);
         again = λ d seg tail short some sp.
             let s = two_spelled printed seg (Plain second) (Quoted z) sp in
-            (tt, s.second ∷ tail, (s.first, ap (λ s. s ++ tail) s.whole, s.left), (z, tail, (s.second, tail, (refl, s.right.0), (sym s.right.1, refl)), (both.1, refl)));
+            (tt, s.second ∷ tail, (s.first, ap (λ s. s ++ tail) s.whole, s.left), (z, tail, (s.second, tail, (refl, s.right.0), (s.right.1, refl)), (both.1, refl)));
       };
 }
 

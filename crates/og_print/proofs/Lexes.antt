@@ -25,7 +25,8 @@ use Rattle.og_syntax.specs.declared.lexeme.Sort.TheVariants as k
 use Rattle.og_syntax.specs.Lexemes.{is, same_sort}
 use Rattle.og_syntax.proofs.EverySort.{everywhere, every_sort}
 use Rattle.og_syntax.proofs.Exact.{implies, so, left_of, right_of, not_true, or_left}
-use Rattle.og_parse.specs.Tokens.{sort_of_word, sort_of_symbol}
+use Rattle.og_syntax.specs.Words.{sort_of_word, word_of}
+use Rattle.og_parse.specs.Tokens.{sort_of_symbol}
 use Rattle.og_print.specs.Words.{Word, Plain, Named, Whole, Quoted, sort_text, word_text, word_sort, blank_after}
 use Rattle.og_print.proofs.Spelling.{is_inner, IsWell}
 
@@ -70,7 +71,7 @@ is_read a None = is_word (sort_text a) && (not (is_in_word (blank_after a)) && s
 
 -- each sort with a spelling is read
 all_read : everywhere (λ a. implies (is_inner a || is k.Semicolon a) (is_read a (symbol_of a))) ≡ true
-unfolding same_sort sort_of_word
+unfolding same_sort sort_of_word word_of
 all_read = refl
 
 -- a sort with a spelling is read

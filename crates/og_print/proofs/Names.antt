@@ -2,7 +2,7 @@
 use Rattle.std.proofs.Common.{◌≡◌, ℕ, Bool, true, false, List, [], ◌∷◌, refl, sym, ap, ◌∙◌}
 use Rattle.std.specs.Str.{bytes_eq}
 use Rattle.og_syntax.specs.declared.lexeme.Sort.{Sort}
-use Rattle.og_parse.specs.Tokens.{reserved, sort_in, sort_of_word}
+use Rattle.og_syntax.specs.Words.{reserved, sort_in, sort_of_word}
 use Rattle.og_value.specs.Words.{folded}
 use Rattle.og_value.proofs.WordLemmas.{folded-folded}
 

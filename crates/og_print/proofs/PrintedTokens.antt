@@ -4,7 +4,7 @@ use Rattle.std.proofs.lemmas.Int.{ints}
 use Rattle.std.specs.Bool.{⊤}
 use Rattle.std.specs.List.{list_all}
 use Rattle.std.specs.Str.{str_eq_ignore_ascii_case, IsUtf8}
-use Rattle.og_lex.specs.Bytes.{IsIn64, doubled, quoted}
+use Rattle.og_lex.specs.Bytes.{IsIn64, quoted}
 use Rattle.og_lex.specs.Grammar.{IsToken, Reads}
 use Rattle.og_lex.specs.declared.symbol.Symbol.{Symbol}
 use Rattle.og_lex.specs.declared.symbol.Symbol.TheVariants as symbols
@@ -12,13 +12,15 @@ use Rattle.og_lex.specs.declared.token.Token.{Token}
 use Rattle.og_lex.specs.declared.token.TokenKind.{TokenKind}
 use Rattle.og_lex.specs.declared.token.TokenKind.TheVariants as kinds
 use Rattle.og_lex.proofs.Runs.{take-joined, drop-joined}
+use Rattle.og_lex.proofs.Tokens.{quoted-same}
 use Rattle.og_value.specs.Words.{is_word, folded}
 use Rattle.og_syntax.specs.declared.lexeme.Sort.{Sort}
 use Rattle.og_syntax.specs.declared.lexeme.Sort.TheVariants as k
 use Rattle.og_syntax.specs.Lexemes.{is, same_sort}
-use Rattle.og_syntax.specs.Spans.{spelling, singled, inside, content}
+use Rattle.og_syntax.specs.Spans.{spelling, IsContent}
 use Rattle.og_syntax.proofs.Exact.{left_of, right_of, is_sort, not_true}
-use Rattle.og_parse.specs.Tokens.{reserved, sort_in, sort_of_word, sort_of_symbol, at_token, lexeme_by, lexeme_of, lexemes_of}
+use Rattle.og_syntax.specs.Words.{reserved, sort_in, sort_of_word}
+use Rattle.og_parse.specs.Tokens.{sort_of_symbol, at_token, lexeme_by, lexeme_of, lexemes_of}
 use Rattle.og_print.specs.Words.{Word, Plain, Named, Whole, Quoted, sort_text, word_text, word_sort, blank_after, with_word, with_words}
 use Rattle.og_print.proofs.Spelling.{Spells, SpellAll, IsProper, AreProper}
 use Rattle.og_print.proofs.Lexes.{Comes, symbol_of, kind_by, word_kind, is_read, read_sort, spelled_sort, word_token_of, blank}
@@ -65,7 +67,7 @@ words_read at (w ∷ ws) h =
 -- ---- spellings
 
 -- the bytes at a place
-taken : (before z rest : List ℕ) → take (length before + length z - length before) (drop (length before) (before ++ (z ++ rest))) ≡ z
+pub taken : (before z rest : List ℕ) → take (length before + length z - length before) (drop (length before) (before ++ (z ++ rest))) ≡ z
 taken before z rest =
     let count : length before + length z - length before ≡ length z = omega arith in
     ap₂ (λ n y. take n y) count (drop-joined before (z ++ rest)) ∙ take-joined z rest
@@ -78,20 +80,14 @@ spelling_at script before z rest token sort n e f g =
     ap (λ s. take (token.end - token.start) (drop token.start s)) e
     ∙ ap₂ (λ a b. take (b - a) (drop a (before ++ (z ++ rest)))) f g ∙ taken before z rest
 
--- single quotes again
-singled-doubled : (z : List ℕ) → singled false (doubled z) ≡ z
-singled-doubled [] = refl
-singled-doubled (b ∷ z) = go (b == 39) refl (singled-doubled z)
-  where
-    go : (q : Bool) → (b == 39) ≡ q → singled false (doubled z) ≡ z → singled false (if b == 39 then 39 ∷ 39 ∷ doubled z else b ∷ doubled z) ≡ b ∷ z
-    go true e h = let same = eqb-true b 39 e in rw e (ap (λ y. 39 ∷ y) h ∙ ap (λ c. c ∷ z) (sym same))
-    go false e h = rw e (rw e (ap (λ y. b ∷ y) h))
-
--- the content between quotes
-pub inside-quoted : (z : List ℕ) → singled false (inside (quoted z)) ≡ z
-inside-quoted z =
-    let count : length (quoted z) - 2 ≡ length (doubled z) = omega (arith, length-append (doubled z) (39 ∷ [])) in
-    ap (singled false) (ap (λ n. take n (doubled z ++ 39 ∷ [])) count ∙ take-joined (doubled z) (39 ∷ [])) ∙ singled-doubled z
+-- the content of a text at a place
+content_there : (script before z rest : List ℕ) (token : Token) → script ≡ before ++ (quoted z ++ rest) → token.start ≡ length before → token.end ≡ length before + length (quoted z)
+    → IsContent script (at_token token k.Quoted (pos 0)) z
+unfolding spelling
+content_there script before z rest token e f g = record {
+  within = omega (arith, ap length e, g, length-append before (quoted z ++ rest), length-append (quoted z) rest);
+  between = spelling_at script before (quoted z) rest token k.Quoted (pos 0) e f g;
+}
 
 -- ---- lexemes that spell words
 
@@ -103,7 +99,7 @@ spells_sort script token a None e h = ap sort_of_word h ∙ is_sort (sort_of_wor
 -- the lexeme of a word at a place
 spells_word : (script before rest : List ℕ) (w : Word) (token : Token) → script ≡ before ++ (word_text w ++ rest) → token.kind ≡ word_kind w → token.start ≡ length before → token.end ≡ length before + length (word_text w) → Comes w
     → Spells script (lexeme_of script token) w
-unfolding lexeme_of content
+unfolding lexeme_of
 spells_word script before rest (Word.Plain a) token e kind f g h =
     ap (λ kind. (lexeme_by script token kind).sort) kind
     ∙ spells_sort script token a (symbol_of a) (read_sort a (spelled_sort a h)) (spelling_at script before (sort_text a) rest token k.Name (pos 0) e f g)
@@ -119,7 +115,7 @@ spells_word script before rest (Word.Named name) token e kind f g (inr h) = absu
 spells_word script before rest (Word.Whole n) token e kind f g h = subst (λ kind. Spells script (lexeme_by script token kind) (Whole n)) (sym kind) (refl, refl)
 spells_word script before rest (Word.Quoted z) token e kind f g h =
     subst (λ kind. Spells script (lexeme_by script token kind) (Quoted z)) (sym kind)
-    (refl, ap (λ y. singled false (inside y)) (spelling_at script before (quoted z) rest token k.Quoted (pos 0) e f g) ∙ inside-quoted z)
+    (refl, content_there script before z rest token e f g)
 
 -- the lexemes of printed words spell these words
 pub words_spelled : (script before : List ℕ) (ws : List Word) → script ≡ before ++ text_of ws → AllCome ws → SpellAll script (lexemes_of script (tokens_from (length before) ws)) ws
@@ -182,15 +178,15 @@ zero_fits = record { above = omega (arith, ints); below = omega (arith, ints) }
 -- the lexeme of a token at a place
 proper_by : (script before z rest : List ℕ) (token : Token) (kind : TokenKind) → script ≡ before ++ (z ++ rest) → token.start ≡ length before → token.end ≡ length before + length z → IsToken kind z rest
     → IsProper script (lexeme_by script token kind)
-unfolding content spelling same_sort
-proper_by script before z rest token kinds.Word e f g h = record { name = λ s. s; number = λ s. zero_fits; text = λ s. absurd (no_text _ s) }
-proper_by script before z rest token (kinds.Number n) e f g h = record { name = λ s. cc; number = λ s. h.fits; text = λ s. cc }
+unfolding spelling same_sort
+proper_by script before z rest token kinds.Word e f g h = record { name = λ s. s; number = λ s. zero_fits; text = λ content s is. absurd (no_text _ s) }
+proper_by script before z rest token (kinds.Number n) e f g h = record { name = λ s. cc; number = λ s. h.fits; text = λ content s is. cc }
 proper_by script before z rest token kinds.Text e f g h = record {
   name = λ s. cc;
   number = λ s. zero_fits;
-  text = λ s. subst IsUtf8 (sym (ap (λ y. singled false (inside y)) (spelling_at script before z rest token k.Quoted (pos 0) e f g ∙ h.1.between) ∙ inside-quoted h.0)) h.2;
+  text = λ content s is. subst IsUtf8 (quoted-same h.0 content (sym h.1.between ∙ sym (spelling_at script before z rest token k.Quoted (pos 0) e f g) ∙ is.between)) h.2;
 }
-proper_by script before z rest token (kinds.Sym symbol) e f g h = record { name = λ s. no_symbol symbol k.Name refl s; number = λ s. zero_fits; text = λ s. no_symbol symbol k.Quoted refl s }
+proper_by script before z rest token (kinds.Sym symbol) e f g h = record { name = λ s. no_symbol symbol k.Name refl s; number = λ s. zero_fits; text = λ content s is. no_symbol symbol k.Quoted refl s }
 
 -- the lexemes of a script's tokens
 pub proper-reads : {at end : ℕ} {z rest : List ℕ} {tokens : List Token} (script before : List ℕ) → script ≡ before ++ z → length before ≡ at → Reads at z tokens end rest → AreProper script (lexemes_of script tokens)

@@ -5,9 +5,9 @@ use Rattle.og_lex.specs.Bytes.{IsIn64}
 use Rattle.og_syntax.specs.declared.lexeme.Sort.{Sort}
 use Rattle.og_syntax.specs.declared.lexeme.Sort.TheVariants as k
 use Rattle.og_syntax.specs.declared.lexeme.Lexeme.{Lexeme}
-use Rattle.og_syntax.specs.Spans.{spelling, content, IsNameOf}
+use Rattle.og_syntax.specs.Spans.{spelling, IsContent, IsNameOf}
 use Rattle.og_value.specs.Words.{is_word, folded}
-use Rattle.og_parse.specs.Tokens.{sort_of_word}
+use Rattle.og_syntax.specs.Words.{sort_of_word}
 use Rattle.og_print.specs.Words.{Word, Plain, Named, Whole, Quoted}
 
 -- a sort with a spelling of its own that does not end a statement
@@ -36,7 +36,7 @@ abbrev pub Spells : List ℕ → Lexeme → Word → Type 0
 Spells script t (Plain sort) = t.sort ≡ sort
 Spells script t (Named name) = (t.sort ≡ k.Name) × IsNameOf (spelling script t) name
 Spells script t (Whole n) = (t.sort ≡ k.Number) × (t.number ≡ n)
-Spells script t (Quoted z) = (t.sort ≡ k.Quoted) × (content script t ≡ z)
+Spells script t (Quoted z) = (t.sort ≡ k.Quoted) × IsContent script t z
 
 -- each of the lexemes spells its word
 abbrev pub SpellAll : List ℕ → List Lexeme → List Word → Type 0
@@ -49,7 +49,7 @@ SpellAll script (t ∷ ts) (w ∷ ws) = Spells script t w × SpellAll script ts 
 pub record IsProper (script : List ℕ) (t : Lexeme) : Type 0 where
   pub name : t.sort ≡ k.Name → sort_of_word (spelling script t) ≡ k.Name
   pub number : t.sort ≡ k.Number → IsIn64 t.number
-  pub text : t.sort ≡ k.Quoted → IsUtf8 (content script t)
+  pub text : (content : List ℕ) → t.sort ≡ k.Quoted → IsContent script t content → IsUtf8 content
 
 -- each of the lexemes is so
 abbrev pub AreProper : List ℕ → List Lexeme → Type 0

@@ -4,6 +4,7 @@ use Rattle.std.specs.Fmt.{signed_decimal}
 use Rattle.og_lex.specs.Bytes.{quoted}
 use Rattle.og_syntax.specs.declared.lexeme.Sort.{Sort}
 use Rattle.og_syntax.specs.declared.lexeme.Sort.TheVariants as k
+use Rattle.og_syntax.specs.Words.{word_of}
 
 -- a reserved word or a symbol, a name, a number, or a text
 pub data Word : Type 0 where
@@ -12,76 +13,25 @@ pub data Word : Type 0 where
   Whole : ℤ → Word
   Quoted : List ℕ → Word
 
+-- the bytes of a symbol
+abbrev pub mark_text : Sort → List ℕ
+mark_text k.LeftParen = codes "("
+mark_text k.RightParen = codes ")"
+mark_text k.Comma = codes ","
+mark_text k.Semicolon = codes ";"
+mark_text k.Dot = codes "."
+mark_text k.Star = codes "*"
+mark_text k.Equal = codes "="
+mark_text k.NotEqual = codes "<>"
+mark_text k.LessEqual = codes "<="
+mark_text k.GreaterEqual = codes ">="
+mark_text k.Less = codes "<"
+mark_text k.Greater = codes ">"
+mark_text _ = []
+
 -- the bytes of a reserved word, in upper case, or of a symbol
 abbrev pub sort_text : Sort → List ℕ
-sort_text k.And = codes "AND"
-sort_text k.As = codes "AS"
-sort_text k.Before = codes "BEFORE"
-sort_text k.Common = codes "COMMON"
-sort_text k.Contains = codes "CONTAINS"
-sort_text k.Create = codes "CREATE"
-sort_text k.Date = codes "DATE"
-sort_text k.Delete = codes "DELETE"
-sort_text k.Drop = codes "DROP"
-sort_text k.During = codes "DURING"
-sort_text k.Empty = codes "EMPTY"
-sort_text k.End = codes "END"
-sort_text k.Equals = codes "EQUALS"
-sort_text k.Except = codes "EXCEPT"
-sort_text k.Exists = codes "EXISTS"
-sort_text k.Explain = codes "EXPLAIN"
-sort_text k.Finishes = codes "FINISHES"
-sort_text k.From = codes "FROM"
-sort_text k.Greatest = codes "GREATEST"
-sort_text k.Import = codes "IMPORT"
-sort_text k.Insert = codes "INSERT"
-sort_text k.Int = codes "INT"
-sort_text k.Intersect = codes "INTERSECT"
-sort_text k.Into = codes "INTO"
-sort_text k.Join = codes "JOIN"
-sort_text k.Keep = codes "KEEP"
-sort_text k.Least = codes "LEAST"
-sort_text k.Live = codes "LIVE"
-sort_text k.Meets = codes "MEETS"
-sort_text k.Not = codes "NOT"
-sort_text k.Of = codes "OF"
-sort_text k.On = codes "ON"
-sort_text k.Ongoing = codes "ONGOING"
-sort_text k.Open = codes "OPEN"
-sort_text k.Or = codes "OR"
-sort_text k.Overlaps = codes "OVERLAPS"
-sort_text k.Period = codes "PERIOD"
-sort_text k.Print = codes "PRINT"
-sort_text k.Save = codes "SAVE"
-sort_text k.Select = codes "SELECT"
-sort_text k.Set = codes "SET"
-sort_text k.Start = codes "START"
-sort_text k.Starts = codes "STARTS"
-sort_text k.Table = codes "TABLE"
-sort_text k.Tables = codes "TABLES"
-sort_text k.Text = codes "TEXT"
-sort_text k.To = codes "TO"
-sort_text k.Union = codes "UNION"
-sort_text k.Update = codes "UPDATE"
-sort_text k.Valid = codes "VALID"
-sort_text k.Values = codes "VALUES"
-sort_text k.Where = codes "WHERE"
-sort_text k.LeftParen = codes "("
-sort_text k.RightParen = codes ")"
-sort_text k.Comma = codes ","
-sort_text k.Semicolon = codes ";"
-sort_text k.Dot = codes "."
-sort_text k.Star = codes "*"
-sort_text k.Equal = codes "="
-sort_text k.NotEqual = codes "<>"
-sort_text k.LessEqual = codes "<="
-sort_text k.GreaterEqual = codes ">="
-sort_text k.Less = codes "<"
-sort_text k.Greater = codes ">"
-sort_text k.Name = []
-sort_text k.Number = []
-sort_text k.Quoted = []
-sort_text k.Nothing = []
+sort_text sort = mark_text sort ++ word_of sort
 
 -- the bytes of a word: a number in decimal, a text between quotes with each quote of it doubled
 abbrev pub word_text : Word → List ℕ

@@ -6,7 +6,7 @@ ghost use Rattle.og_print.specs.Words as spec;
 
 use itoa::Buffer;
 use og_base::NoMemory;
-use og_syntax::Sort;
+use og_syntax::{Sort, word_of};
 use og_value::{Name, Value, write_cell};
 use std::alloc::Global;
 
@@ -14,7 +14,8 @@ use std::alloc::Global;
 pub fn plain(sort: Sort, out: &mut Vec<u8>) -> Result<(), NoMemory>
     ensures { OnOk result (out.new.items ≡ spec.with_words out.old.items (spec.Plain sort ∷ [])) }
 {
-    out.extend_from_slice(sort_text(sort))?;
+    out.extend_from_slice(mark_text(sort))?;
+    out.extend_from_slice(word_of(sort))?;
     out.push(blank_after(sort))?;
     Ok(())
 }
@@ -91,63 +92,11 @@ pub fn quoted_cell(alloc: Global, value: &Value, out: &mut Vec<u8>) -> Result<()
     quoted(text.as_slice(), out)
 }
 
-// The bytes of a reserved word or a symbol.
-fn sort_text(sort: Sort) -> &'static [u8]
-    ensures { result.now ≡ spec.sort_text sort }
+// The bytes of a symbol, and none where the sort is that of none.
+fn mark_text(sort: Sort) -> &'static [u8]
+    ensures { result.now ≡ spec.mark_text sort }
 {
     match sort {
-        Sort::And => b"AND",
-        Sort::As => b"AS",
-        Sort::Before => b"BEFORE",
-        Sort::Common => b"COMMON",
-        Sort::Contains => b"CONTAINS",
-        Sort::Create => b"CREATE",
-        Sort::Date => b"DATE",
-        Sort::Delete => b"DELETE",
-        Sort::Drop => b"DROP",
-        Sort::During => b"DURING",
-        Sort::Empty => b"EMPTY",
-        Sort::End => b"END",
-        Sort::Equals => b"EQUALS",
-        Sort::Except => b"EXCEPT",
-        Sort::Exists => b"EXISTS",
-        Sort::Explain => b"EXPLAIN",
-        Sort::Finishes => b"FINISHES",
-        Sort::From => b"FROM",
-        Sort::Greatest => b"GREATEST",
-        Sort::Import => b"IMPORT",
-        Sort::Insert => b"INSERT",
-        Sort::Int => b"INT",
-        Sort::Intersect => b"INTERSECT",
-        Sort::Into => b"INTO",
-        Sort::Join => b"JOIN",
-        Sort::Keep => b"KEEP",
-        Sort::Least => b"LEAST",
-        Sort::Live => b"LIVE",
-        Sort::Meets => b"MEETS",
-        Sort::Not => b"NOT",
-        Sort::Of => b"OF",
-        Sort::On => b"ON",
-        Sort::Ongoing => b"ONGOING",
-        Sort::Open => b"OPEN",
-        Sort::Or => b"OR",
-        Sort::Overlaps => b"OVERLAPS",
-        Sort::Period => b"PERIOD",
-        Sort::Print => b"PRINT",
-        Sort::Save => b"SAVE",
-        Sort::Select => b"SELECT",
-        Sort::Set => b"SET",
-        Sort::Start => b"START",
-        Sort::Starts => b"STARTS",
-        Sort::Table => b"TABLE",
-        Sort::Tables => b"TABLES",
-        Sort::Text => b"TEXT",
-        Sort::To => b"TO",
-        Sort::Union => b"UNION",
-        Sort::Update => b"UPDATE",
-        Sort::Valid => b"VALID",
-        Sort::Values => b"VALUES",
-        Sort::Where => b"WHERE",
         Sort::LeftParen => b"(",
         Sort::RightParen => b")",
         Sort::Comma => b",",
@@ -160,6 +109,6 @@ fn sort_text(sort: Sort) -> &'static [u8]
         Sort::GreaterEqual => b">=",
         Sort::Less => b"<",
         Sort::Greater => b">",
-        Sort::Name | Sort::Number | Sort::Quoted | Sort::Nothing => b"",
+        _ => b"",
     }
 }

@@ -6,6 +6,5 @@ pub mod ExpressionRules
 pub mod LiteralRules
 pub mod Loops
 pub mod QueryRules
-pub mod Singled
 pub mod TextValues
 pub mod WhereRules

@@ -4,6 +4,9 @@ use Rattle.std.specs.Str.{is_utf8}
 use Rattle.std.proofs.lemmas.Str.{IsUtf8-from_is_utf8, is_utf8-from_IsUtf8}
 use Rattle.std.proofs.lemmas.Option.{same_Some}
 use Rattle.og_base.specs.Calendar.{IsDayText}
+use Rattle.og_lex.specs.Front.{content_at}
+use Rattle.og_lex.specs.Grammar.{HasText}
+use Rattle.og_lex.proofs.HasTexts.{content_at-sound, content_at-complete}
 use Rattle.og_time.specs.Point.{Point, IsPointText}
 use Rattle.og_time.specs.Period.{Period, IsPeriodText}
 use Rattle.og_value.specs.Words.{is_word, folded}
@@ -13,8 +16,8 @@ use Rattle.og_syntax.specs.declared.lexeme.Sort.{Sort}
 use Rattle.og_syntax.specs.declared.lexeme.Sort.TheVariants as k
 use Rattle.og_syntax.specs.declared.lexeme.Lexeme.{Lexeme}
 use Rattle.og_syntax.specs.Lexemes.{is, same_sort}
-use Rattle.og_syntax.specs.Reading.{got, and_then, given}
-use Rattle.og_syntax.specs.Spans.{spelling, content, IsNameOf, name_of, IsTextOf, text_of, IsDayValue, day_value_from, IsPointValue, point_value_from, IsPeriodValue, period_value_from, IsOfForm, of_form}
+use Rattle.og_syntax.specs.Reading.{got, and_then, given, one}
+use Rattle.og_syntax.specs.Spans.{spelling, text_token, IsContent, IsNameOf, name_of, IsTextOf, text_of, IsDayValue, day_value_from, IsPointValue, point_value_from, IsPeriodValue, period_value_from, IsOfForm, of_form}
 use Rattle.og_syntax.specs.TextValues.{day_of, point_of, period_of}
 use Rattle.og_syntax.specs.Reader.{name, quoted, text, day_lit, point_lit, period_lit, lit}
 use Rattle.og_syntax.specs.Grammar.{IsName, IsQuoted, IsText, IsDayLit, IsPointLit, IsPeriodLit, IsLit}
@@ -44,8 +47,11 @@ exact-name script =
 
 -- what stands between quotes
 pub exact-quoted : (script : List ℕ) → Exact false (is k.Quoted) anything (quoted script) (IsQuoted script)
-unfolding quoted IsQuoted
-exact-quoted script = exact-map (exact-one k.Quoted) (content script)
+unfolding quoted IsQuoted same_sort
+exact-quoted script =
+    exact-loose
+    (exact-then (exact-one k.Quoted) (λ t. exact-given (content_at script (text_token t)) (IsContent script t) (content_at-sound script (text_token t)) (content_at-complete script (text_token t))))
+    refl refl
 
 -- what is found is the text of the bytes
 text_right : (bytes x : List ℕ) → text_of bytes ≡ Some x → IsTextOf bytes x
@@ -147,6 +153,23 @@ exact-lit script strict =
     (exact-choose (is k.Date) (exact-day_lit script strict)
     (exact-choose (is k.Ongoing) (exact-point_lit script strict) (exact-period_lit script strict) refl refl) refl refl) refl refl) refl refl)
     refl refl
+
+-- ---- what stands between quotes
+
+-- the content of a text is read
+pub quoted_read : (script : List ℕ) (ts : List Lexeme) (t : Lexeme) (z : List ℕ) (rest : List Lexeme) → one k.Quoted ts ≡ got t rest → IsContent script t z → quoted script ts ≡ got z rest
+unfolding quoted
+quoted_read script ts t z rest e is =
+    ap (λ r. and_then r (λ t. given (content_at script (text_token t)))) e ∙ ap (λ o. given o rest) (content_at-complete script (text_token t) z is)
+
+-- other bytes are not
+pub no_quoted_read : (script : List ℕ) (ts : List Lexeme) (t : Lexeme) (rest : List Lexeme) → one k.Quoted ts ≡ got t rest → (HasText script (text_token t) → ⊥) → quoted script ts ≡ None
+unfolding quoted
+no_quoted_read script ts t rest e bad = ap (λ r. and_then r (λ t. given (content_at script (text_token t)))) e ∙ go (content_at script (text_token t)) refl
+  where
+    go : (o : Option (List ℕ)) → content_at script (text_token t) ≡ o → given o rest ≡ None
+    go (Some z) h = absurd (bad (z, content_at-sound script (text_token t) z h))
+    go None h = refl
 
 -- ---- the text of what stands between quotes
 

@@ -18,7 +18,7 @@ use Rattle.og_syntax.specs.declared.tree.RestText.{RestText}
 use Rattle.og_syntax.specs.declared.tree.QueryText.{QueryText}
 use Rattle.og_syntax.specs.Meanings.{set_op_of, func_of_two, func_of_one, comparison_of, predicate_of}
 use Rattle.og_syntax.specs.Rules.{Rule, ◌>>=◌, ◌>>◌, ◌or◌, pure, Given, Never, Tok, One, Worded, Many, Joined, Optional, Past, Single, Pair}
-use Rattle.og_syntax.specs.Spans.{spelling, content, IsNameOf, IsTextOf, IsOfForm, IsDayValue, IsPointValue, IsPeriodValue}
+use Rattle.og_syntax.specs.Spans.{spelling, IsContent, IsNameOf, IsTextOf, IsOfForm, IsDayValue, IsPointValue, IsPeriodValue}
 use Rattle.og_syntax.specs.Clauses.{column_of, all_of, any_of, Aliased, item_of, table_of, semi_of, Where, before_semis, core_of, rest_of, query_of}
 
 -- ---- names, texts and literals
@@ -29,7 +29,7 @@ IsName script = do t ← One k.Name; Given (IsNameOf (spelling script t))
 
 -- what stands between quotes
 unfoldable pub IsQuoted : List ℕ → Rule (List ℕ)
-IsQuoted script = do t ← One k.Quoted; pure (content script t)
+IsQuoted script = do t ← One k.Quoted; Given (IsContent script t)
 
 -- text, in UTF-8
 unfoldable pub IsText : List ℕ → Rule (List ℕ)

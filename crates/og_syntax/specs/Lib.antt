@@ -8,3 +8,4 @@ pub mod Reading
 pub mod Rules
 pub mod Spans
 pub mod TextValues
+pub mod Words

@@ -1,5 +1,6 @@
 -- The readers of the grammar, one for each of its rules. The script's bytes stand behind the lexemes.
 use Rattle.std.specs.Prelude.{ℕ, zero, suc, Bool, List, [], ◌∷◌, Option, Some, None, length, drop, ◌&&◌, ◌||◌, not, true, false}
+use Rattle.og_lex.specs.Front.{content_at}
 use Rattle.og_value.specs.declared.value.Value.{Value}
 use Rattle.og_value.specs.declared.value.Value.TheVariants as v
 use Rattle.og_value.specs.declared.term.Func.TheVariants as func
@@ -22,7 +23,7 @@ use Rattle.og_syntax.specs.Clauses.{column_of, all_of, any_of, Aliased, item_of,
 use Rattle.og_syntax.specs.Lexemes.{is, sees}
 use Rattle.og_syntax.specs.Meanings.{set_op_of, func_of_two, func_of_one, comparison_of, predicate_of}
 use Rattle.og_syntax.specs.Reading.{Reads, ◌>>=◌, ◌>>◌, pure, refuse, given, choose, choose_if, tok, one, has, worded, more, joined, joined_if, optional, past, single, pair}
-use Rattle.og_syntax.specs.Spans.{spelling, content, name_of, text_of, day_value_from, point_value_from, period_value_from, of_form}
+use Rattle.og_syntax.specs.Spans.{spelling, text_token, name_of, text_of, day_value_from, point_value_from, period_value_from, of_form}
 use Rattle.og_syntax.specs.TextValues.{day_of, point_of, period_of}
 
 -- ---- names, texts and literals
@@ -31,9 +32,9 @@ use Rattle.og_syntax.specs.TextValues.{day_of, point_of, period_of}
 unfoldable pub name : List ℕ → Reads (List ℕ)
 name script = do t ← one k.Name; given (name_of (spelling script t))
 
--- what stands between the quotes, whatever it is
+-- what stands between the quotes of a text
 unfoldable pub quoted : List ℕ → Reads (List ℕ)
-quoted script = do t ← one k.Quoted; pure (content script t)
+quoted script = do t ← one k.Quoted; given (content_at script (text_token t))
 
 -- a text in UTF-8
 unfoldable pub text : List ℕ → Reads (List ℕ)

@@ -1,7 +1,10 @@
 -- What the bytes of a lexeme write.
-use Rattle.std.specs.Prelude.{◌≡◌, ◌-◌, ◌==◌, ◌&&◌, ℕ, ℤ, pos, Bool, true, false, List, [], ◌∷◌, Option, Some, None, take, drop, length, IsUtf8, if◌then◌else◌}
+use Rattle.std.specs.Prelude.{◌≡◌, ◌-◌, ℕ, ℤ, pos, Bool, true, false, List, Option, Some, None, take, drop, IsUtf8, if◌then◌else◌}
 use Rattle.std.specs.Str.{is_utf8}
 use Rattle.og_base.specs.Calendar.{IsDayText}
+use Rattle.og_lex.specs.Grammar.{IsTextAt}
+use Rattle.og_lex.specs.declared.token.Token.{Token}
+use Rattle.og_lex.specs.declared.token.TokenKind.TheVariants as kinds
 use Rattle.og_time.specs.Point.{Point, IsPointText}
 use Rattle.og_time.specs.Period.{Period, IsPeriodText}
 use Rattle.og_value.specs.Words.{is_word, folded}
@@ -13,18 +16,13 @@ use Rattle.og_syntax.specs.declared.lexeme.Lexeme.{Lexeme}
 unfoldable pub spelling : List ℕ → Lexeme → List ℕ
 spelling script t = take (t.end - t.start) (drop t.start script)
 
--- with the second quote of each pair of quotes left out
-abbrev pub singled : Bool → List ℕ → List ℕ
-singled is_second [] = []
-singled is_second (b ∷ z) = if is_second && (b == 39) then singled false z else b ∷ singled (b == 39) z
-
--- the bytes between the first one and the last one
-abbrev pub inside : List ℕ → List ℕ
-inside z = take (length z - 2) (drop 1 z)
+-- the token of a text
+abbrev pub text_token : Lexeme → Token
+text_token t = record { kind = kinds.Text; start = t.start; end = t.end }
 
 -- what stands between the quotes of a lexeme
-unfoldable pub content : List ℕ → Lexeme → List ℕ
-content script t = singled false (inside (spelling script t))
+abbrev pub IsContent : List ℕ → Lexeme → List ℕ → Type 0
+IsContent script t content = IsTextAt script (text_token t) content
 
 -- the name of a word, in lower case
 abbrev pub IsNameOf : List ℕ → List ℕ → Type 0

@@ -5,7 +5,9 @@
 //! specs/Grammar.antt: what is read is by its rule, and what is by a rule is read, as one tree,
 //! where no lexeme follows that goes on with it (specs/Follow.antt). Strictly, the text after DATE,
 //! ONGOING and PERIOD has to be of its form; leniently, a number stands for any text there. `copy`
-//! of a tree equals its source.
+//! of a tree equals its source. What stands between quotes is the content of the lexeme's bytes as
+//! og_lex has it (`IsContent` in specs/Spans.antt). `sort_of_word` and `word_of` go by the one list
+//! of the reserved words (`reserved` in specs/Words.antt).
 //!
 //! No tests here: scripts reach it, so the cases test it (docs/CASES.md).
 #![tactic(auto)]
@@ -25,6 +27,7 @@ mod step;
 mod tables;
 mod tree;
 mod wheres;
+mod words;
 
 pub use conditions::condition;
 pub use expressions::expression;
@@ -33,10 +36,11 @@ pub use lexeme::{Lexeme, Sort};
 pub use literals::literal;
 pub use queries::query;
 pub use refusal::Refusal;
-pub use spelling::{Unquoted, bytes_of, name, quoted, text};
+pub use spelling::{bytes_of, name, quoted, text};
 pub use step::{after, expect, one, same_sort, sees, sort_at};
 pub use tables::table_name;
 pub use tree::{
     CondText, CoreText, ExprText, FromText, ItemText, ItemsText, QueryText, RestText, Script,
     SemiText, SetText, Stmt,
 };
+pub use words::{sort_of_word, word_of};

@@ -1,5 +1,5 @@
 //! Names and texts, by the bytes of their lexemes.
-ghost use Rattle.std.specs.Prelude.{◌≡◌, IfOk, false, take, drop};
+ghost use Rattle.std.specs.Prelude.{◌≡◌, take, drop};
 ghost use Rattle.og_syntax.specs.Reading.{Gives};
 ghost use Rattle.og_syntax.specs.Reader as spec;
 ghost use Rattle.og_syntax.specs.Spans as spans;
@@ -7,36 +7,9 @@ ghost use Rattle.og_syntax.specs.Spans as spans;
 use crate::lexeme::{Lexeme, Sort};
 use crate::refusal::Refusal;
 use crate::step::one;
-use og_base::NoMemory;
+use og_lex::{Token, TokenKind, Unquoted, has_text, text_of};
 use og_value::{Name, NameRefusal, Text, TextRefusal};
 use std::alloc::Global;
-use std::borrow::CowSlice;
-use std::marker::Model;
-
-/// What stands between the quotes of a text, seen as its bytes: those of the script, or new ones where a
-/// quote stands among them.
-#[derive(Drop)]
-pub struct Unquoted<'a> {
-    bytes: CowSlice<'a, u8>,
-}
-
-impl<'a> Model for Unquoted<'a> {
-    ghost use Rattle.std.specs.Prelude.{List, ℕ};
-    ghost use Rattle.std.specs.Cow.{cow_slice_items};
-
-    ghost Value = { List ℕ };
-
-    ghost view = { λ c. cow_slice_items c.bytes };
-}
-
-impl<'a> Unquoted<'a> {
-    /// The bytes.
-    pub fn as_slice(&self) -> &[u8]
-        ensures { result.now ≡ self.now }
-    {
-        self.bytes.as_slice()
-    }
-}
 
 /// The bytes of the lexeme.
 #[tactic(auto, unfolding(crate::specs::Spans::spelling))]
@@ -67,46 +40,15 @@ fn front_bytes(bytes: &[u8], count: usize) -> &[u8]
     &bytes[..count]
 }
 
-// What stands between the quotes of the lexeme.
-#[tactic(auto, unfolding(crate::specs::Spans::content))]
-fn content(alloc: Global, script: &[u8], lexeme: Lexeme) -> Result<Unquoted<'_>, NoMemory>
-    ensures { IfOk result (λ z. z ≡ spans.content script.now lexeme) }
+// The token of a text.
+fn text_token(lexeme: Lexeme) -> Token
+    ensures { result ≡ spans.text_token lexeme }
 {
-    let bytes = bytes_of(script, lexeme);
-    let inside = front_bytes(after_bytes(bytes, 1), bytes.len().saturating_sub(2));
-    singled(alloc, inside)
-}
-
-// The bytes with the second quote of each pair of quotes left out. They are copied where a quote stands
-// among them alone.
-fn singled(alloc: Global, bytes: &[u8]) -> Result<Unquoted<'_>, NoMemory>
-    ensures { IfOk result (λ z. z ≡ spans.singled false bytes.now) }
-{
-    if !bytes.contains(&b'\'') {
-        return Ok(Unquoted {
-            bytes: CowSlice::Borrowed(bytes),
-        });
+    Token {
+        kind: TokenKind::Text,
+        start: lexeme.start,
+        end: lexeme.end,
     }
-    Ok(Unquoted {
-        bytes: CowSlice::Owned(copied(alloc, bytes)?),
-    })
-}
-
-// A copy of the bytes with the second quote of each pair of quotes left out.
-fn copied(alloc: Global, bytes: &[u8]) -> Result<Vec<u8>, NoMemory>
-    ensures { IfOk result (λ z. z.items ≡ spans.singled false bytes.now) }
-{
-    let mut out = Vec::new(alloc);
-    let mut is_second = false;
-    'bytes: for byte in bytes {
-        if is_second && *byte == b'\'' {
-            is_second = false;
-        } else {
-            out.push(*byte)?;
-            is_second = *byte == b'\'';
-        }
-    }
-    Ok(out)
 }
 
 /// The name that the lexemes begin with, in lower case, and the lexemes after it.
@@ -136,7 +78,11 @@ pub fn quoted<'a, 's>(
     ensures { Gives result (spec.quoted script.now lexemes.now) }
 {
     let (lexeme, rest) = one(lexemes, Sort::Quoted)?;
-    Ok((content(alloc, script, lexeme)?, rest))
+    let token = text_token(lexeme);
+    if !has_text(script, &token) {
+        return Err(Refusal::Syntax);
+    }
+    Ok((text_of(alloc, script, &token)?, rest))
 }
 
 /// The text that the lexemes begin with, and the lexemes after it.
