@@ -1,6 +1,7 @@
 pub mod ConditionReprints
 pub mod Depths
 pub mod ExpressionReprints
+pub mod Forms
 pub mod Lexes
 pub mod Names
 pub mod Nesting

@@ -4,7 +4,7 @@ use Rattle.std.specs.Bool.{⊤}
 use Rattle.std.specs.Prelude.{IfOk, Result, Ok, Err}
 use Rattle.std.proofs.lemmas.Bool.{le-ltb, ltb-false}
 use Rattle.std.proofs.lemmas.List.{map-append}
-use Rattle.og_lex.specs.Grammar.{Reads}
+use Rattle.og_lex.specs.Grammar.{Reads, IsLexed}
 use Rattle.og_syntax.specs.declared.lexeme.Sort.{Sort}
 use Rattle.og_syntax.specs.declared.lexeme.Sort.TheVariants as k
 use Rattle.og_syntax.specs.declared.lexeme.Lexeme.{Lexeme}
@@ -18,12 +18,13 @@ use Rattle.og_parse.specs.Script.{glued, pieces, IsGood, AreGood}
 use Rattle.og_parse.specs.Tokens.{lexemes_of}
 use Rattle.og_print.specs.Words.{Word, Plain, word_sort, each}
 use Rattle.og_print.specs.Statements.{body_words, stmt_words, script_text}
-use Rattle.og_print.specs.Printed.{IsTextOf, IsPrintable}
+use Rattle.og_print.specs.Printed.{IsTextOf, IsPrintable, IsPrinted}
 use Rattle.og_print.proofs.Spelling.{is_inner, IsWell, AreWell, SpellAll, AreProper}
 use Rattle.og_print.proofs.Depths.{sorts_of, nests, number_of, IsNoDeeper}
 use Rattle.og_print.proofs.Nesting.{not_first, not_second, neither, no_deeper-same, no_deeper-append}
 use Rattle.og_print.proofs.Reprints.{halves, one_spelled, spelled-sort, spelled-sorts}
 use Rattle.og_print.proofs.StatementReprints.{again-body}
+use Rattle.og_print.proofs.Forms.{laid_out}
 use Rattle.og_print.proofs.PrintedTokens.{text_of, with_words-is, tokens_from, AllCome, words_read, words_spelled, proper-reads}
 
 -- ---- depths
@@ -161,21 +162,35 @@ script_again script printed (p ∷ ps) (x ∷ xs) proper h =
           subst (λ ps. AreGood printed ps (x ∷ xs)) (sym parts) (one.good cut.first o.lexeme cut.left o.spells, more.good end.second end.right);
     }
 
--- what is printed for a script is a script of the same statements
-pub script_read : (xs : List Stmt) → IsPrintable xs → IsTextOf (script_text xs) xs
-script_read xs h =
-    let script = h.0 in
-    let tokens = h.1.0 in
-    let words = each stmt_words xs in
-    let printed = text_of words in
-    let proper = proper-reads script [] refl refl h.1.1 in
-    let a = script_again script printed (pieces (lexemes_of script tokens)) xs (pieces_proper script (lexemes_of script tokens) proper) h.1.2 in
-    let same : script_text xs ≡ printed = with_words-is [] words in
-    subst (λ z. IsTextOf z xs) (sym same)
-    (tokens_from 0 words, subst (λ end. Reads 0 printed (tokens_from 0 words) end []) (start printed) (words_read 0 words a.come), a.good (lexemes_of printed (tokens_from 0 words)) (words_spelled printed [] words refl a.come))
+-- the bytes of words are lexed as these words
+words_lexed : (ws : List Word) → AllCome ws → IsLexed (text_of ws) (tokens_from 0 ws)
+words_lexed ws h = subst (λ end. Reads 0 (text_of ws) (tokens_from 0 ws) end []) (start (text_of ws)) (words_read 0 ws h)
   where
     start : (z : List ℕ) → 0 + length z ≡ length z
     start z = omega arith
+
+-- the words of statements that were read are statements again
+printed_again : (xs : List Stmt) → IsPrintable xs → AreAgain (text_of (each stmt_words xs)) xs
+printed_again xs h =
+    let script = h.0 in
+    let lexemes = lexemes_of script h.1.0 in
+    script_again script (text_of (each stmt_words xs)) (pieces lexemes) xs (pieces_proper script lexemes (proper-reads script [] refl refl h.1.1)) h.1.2
+
+-- what is printed for a script is a script of the same statements
+pub script_read : (xs : List Stmt) → IsPrintable xs → IsTextOf (script_text xs) xs
+script_read xs h =
+    let words = each stmt_words xs in
+    let printed = text_of words in
+    let a = printed_again xs h in
+    subst (λ z. IsTextOf z xs) (sym (with_words-is [] words))
+    (tokens_from 0 words, words_lexed words a.come, a.good (lexemes_of printed (tokens_from 0 words)) (words_spelled printed [] words refl a.come))
+
+-- what is printed for a script has the one form
+pub script_printed : (xs : List Stmt) → IsPrintable xs → IsPrinted (script_text xs)
+script_printed xs h =
+    let words = each stmt_words xs in
+    let a = printed_again xs h in
+    subst IsPrinted (sym (with_words-is [] words)) (tokens_from 0 words, words_lexed words a.come, laid_out (text_of words) [] words refl a.come)
 
 -- the same of a result
 pub if_ok_more : {T E : Type 0} (r : Result T E) (P Q : T → Type 0) → ((x : T) → P x → Q x) → IfOk r P → IfOk r Q

@@ -3,7 +3,7 @@ ghost use Rattle.std.specs.Prelude.{◌≡◌, OnOk, IfOk, List, ℕ};
 ghost use Rattle.og_lex.specs.Grammar.{IsLexed};
 ghost use Rattle.og_lex.specs.declared.token.Token.{Token};
 ghost use Rattle.og_parse.specs.Script.{IsScript};
-ghost use Rattle.og_print.specs.Printed.{IsPrintable};
+ghost use Rattle.og_print.specs.Printed.{IsPrintable, IsPrinted};
 ghost use Rattle.og_print.specs.Statements as spec;
 
 use crate::statements::write_stmt;
@@ -12,10 +12,13 @@ use og_parse::{Script, Stmt};
 use sqlite_items::Items;
 use std::alloc::Global;
 
-/// Bytes that lex and parse to an equal script: each reserved word in upper case, a space after each
-/// token, and a line feed after each semicolon. Refused where memory runs out.
+/// Bytes that lex and parse to an equal script, in the one form of its trees: each reserved word in
+/// upper case, each name in lower case and each number in decimal, with a line feed after each
+/// semicolon, a space after each other token, and nothing else. Refused where memory runs out.
 pub fn print_script(alloc: Global, script: &Script) -> Result<Vec<u8>, NoMemory>
     requires printable { IsPrintable script.now.stmts }
+    ensures text { IfOk result (λ text. text.items ≡ spec.script_text script.now.stmts) }
+    ensures form { IfOk result (λ text. IsPrinted text.items) }
     ensures again { IfOk result (λ text. (tokens : List Token) × IsLexed text.items tokens × IsScript text.items tokens script.now.stmts) }
 {
     write_stmts(alloc, &script.stmts)
