@@ -7,5 +7,6 @@ pub mod Numbers
 pub mod Quotes
 pub mod Runs
 pub mod Scripts
+pub mod Starts
 pub mod Symbols
 pub mod Tokens
