@@ -7,6 +7,7 @@ ghost use Rattle.og_words.specs.declared.command.Command.TheVariants as commands
 ghost use Rattle.og_faults.specs.Counts.{IsFaultCount, is_read_fault};
 ghost use Rattle.og_script.specs.Stops.{IsRunCommand, IsScriptStop, IsSourceOf, IsStopBefore};
 ghost use Rattle.og_script.specs.LiveTexts.{IsLiveStmt};
+ghost use Rattle.og_script.specs.Places.{IsKeptAt};
 ghost use Rattle.og_script.specs.Scripts.{IsScript, IsScriptOf, max_source};
 
 use crate::commands::{at_statements, load_statements};
@@ -33,11 +34,13 @@ pub fn workers_of(command: &Command) -> usize
     }
 }
 
-/// The statements that the command runs: for `run` those of the source, which is read to its end.
+/// The statements that the command runs: for `run` those of the source, which is read to its end, and whose bytes
+/// are kept.
 pub fn script_of<S: Source>(
     alloc: Global,
     command: Command,
     src: &mut S,
+    kept: &mut Vec<u8>,
 ) -> Result<Items<Stmt>, Stop>
     requires { (words : List (List ℕ)) × IsCommand words command }
     ensures script { (source : List ℕ) → IsSourceOf command (S.left src.old) source → IfOk result (IsScriptOf command source) }
@@ -46,26 +49,36 @@ pub fn script_of<S: Source>(
     ensures stops { IfErr result (IsStopBefore command) }
     ensures drained { (source : List ℕ) → IsRunCommand command → S.left src.old ≡ Some source → IfOk result (λ _. S.left src.new ≡ Some []) }
     ensures untouched { ¬ IsRunCommand command → src.new ≡ src.old }
+    ensures kept { (source : List ℕ) → IsRunCommand command → S.left src.old ≡ Some source → IfOk result (λ _. kept.new.items ≡ source) }
+    ensures kept_at { (source : List ℕ) → IsRunCommand command → S.left src.old ≡ Some source → IfErr result (IsKeptAt source kept.new.items) }
+    ensures none_kept { ¬ IsRunCommand command → kept.new ≡ kept.old }
     ensures reads { IsFaultCount (is_read_fault result) (S.faults src.old) (S.faults src.new) }
 {
     match command {
-        Command::Run { .. } => read_script(alloc, src),
+        Command::Run { .. } => read_script(alloc, src, kept),
         Command::At { file, day } => Ok(at_statements(alloc, file, day)?),
         Command::Load { rows, .. } => Ok(load_statements(alloc, rows)?),
     }
 }
 
 // The statements of the source, which is read to its end.
-fn read_script<S: Source>(alloc: Global, src: &mut S) -> Result<Items<Stmt>, Stop>
+#[tactic(auto, using(crate::proofs::PlaceLemmas::kept_unread, crate::proofs::PlaceLemmas::kept_whole))]
+fn read_script<S: Source>(
+    alloc: Global,
+    src: &mut S,
+    kept: &mut Vec<u8>,
+) -> Result<Items<Stmt>, Stop>
     ensures script { (source : List ℕ) → S.left src.old ≡ Some source → IfOk result (IsScript source) }
     ensures live { IfOk result (All IsLiveStmt) }
     ensures stopped { (source : List ℕ) → S.left src.old ≡ Some source → IfErr result (IsScriptStop source) }
     ensures stops { (workers : ℕ) → IfErr result (IsStopBefore (commands.Run workers)) }
     ensures drained { (source : List ℕ) → S.left src.old ≡ Some source → IfOk result (λ _. S.left src.new ≡ Some []) }
+    ensures kept { (source : List ℕ) → S.left src.old ≡ Some source → IfOk result (λ _. kept.new.items ≡ source) }
+    ensures kept_at { (source : List ℕ) → S.left src.old ≡ Some source → IfErr result (IsKeptAt source kept.new.items) }
     ensures reads { IsFaultCount (is_read_fault result) (S.faults src.old) (S.faults src.new) }
 {
-    let bytes = read_source(alloc, src)?;
-    tree_of(alloc, bytes.as_slice())
+    *kept = read_source(alloc, src)?;
+    tree_of(alloc, kept.as_slice())
 }
 
 // The statements of the bytes.

@@ -16,6 +16,7 @@ pub mod LiveSteps
 pub mod NameLemmas
 pub mod NameSteps
 pub mod OneRun
+pub mod PlaceLemmas
 pub mod PieceLemmas
 pub mod QueryLemmas
 pub mod RunLemmas

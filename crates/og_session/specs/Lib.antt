@@ -6,4 +6,5 @@ pub mod Headline
 pub mod Lives
 pub mod Names
 pub mod Output
+pub mod Places
 pub mod Runs

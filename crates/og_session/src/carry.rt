@@ -1,5 +1,5 @@
 //! Carries out a command, up to its fault's line.
-ghost use Rattle.std.specs.Prelude.{◌≡◌, ◌≤◌, [], ◌∷◌, ℕ, List, Some, OnOk};
+ghost use Rattle.std.specs.Prelude.{◌≡◌, ◌≤◌, [], ◌∷◌, ℕ, List, Some, OnOk, IfErr};
 ghost use Rattle.std.specs.List.{All};
 ghost use Rattle.std.specs.Io.KnownBytes.{Appends};
 ghost use Rattle.og_par.specs.Limits.{max_workers};
@@ -8,6 +8,7 @@ ghost use Rattle.og_db.specs.Runs.{stored};
 ghost use Rattle.og_words.specs.Grammar.{IsCommand};
 ghost use Rattle.og_faults.specs.Counts.{IsAbsenceCount, IsFaultCount, is_file_fault, is_read_fault, is_write_fault};
 ghost use Rattle.og_script.specs.LiveTexts.{IsLiveStmt};
+ghost use Rattle.og_script.specs.Places.{IsKeptAt};
 ghost use Rattle.og_session.specs.Contents.{AreContents, Contents};
 ghost use Rattle.og_session.specs.Ends.{EndsUnreported, EndsWith, IsEndOf, RunEnds};
 ghost use Rattle.og_session.specs.Runs.{IsDefinedRun, IsRun, Run, run_from};
@@ -28,7 +29,7 @@ use std::alloc::Global;
 use std::thread::Threads;
 
 /// Runs the command that the words are over a database without names, and writes what it prints, up to
-/// the line of a fault.
+/// the line of a fault. The bytes of the source are kept in `script`.
 pub fn carry_out<H: Threads + Sync, S: Source, K: Sink, F: Files, G: Gate + Sync>(
     rt: &H,
     alloc: Global,
@@ -38,6 +39,7 @@ pub fn carry_out<H: Threads + Sync, S: Source, K: Sink, F: Files, G: Gate + Sync
     files: &mut F,
     db: &mut Db,
     gate: &G,
+    script: &mut Vec<u8>,
 ) -> Result<(), Stop>
     requires { db.old ≡ [] }
     ensures told { (source : List ℕ) (start : Folder) (run : Run) → (IsRun words.now → S.left src.old ≡ Some source) → F.folder files.old ≡ Some start → IsDefinedRun words.now source start run →
@@ -50,12 +52,14 @@ pub fn carry_out<H: Threads + Sync, S: Source, K: Sink, F: Files, G: Gate + Sync
     ensures files { IsFaultCount (is_file_fault result) (F.faults files.old) (F.faults files.new) }
     ensures writes { IsFaultCount (is_write_fault result) (K.faults out.old) (K.faults out.new) }
     ensures absences { IsAbsenceCount result (F.absences files.old) (F.absences files.new) }
+    ensures kept { (source : List ℕ) → IsRun words.now → S.left src.old ≡ Some source → IfErr result (IsKeptAt source script.new.items) }
+    ensures none_kept { ¬ IsRun words.now → script.new.items ≡ script.old.items }
 {
     defined_runs();
     no_statements();
     let command = read_words(alloc, words)?;
     let workers = workers_of(&command);
-    let stmts = script_of(alloc, command, src)?;
+    let stmts = script_of(alloc, command, src, script)?;
     run_statements(rt, alloc, stmts, workers, out, files, db, gate)
 }
 

@@ -10,6 +10,8 @@
 //! the scripts of `at` and `load` in Commands.antt of og_script. Of a source or of files that do not tell their
 //! bytes it says far less (docs/PROOFS.md, "The headline").
 //!
+//! `run_located` is `run` with the place of the fault in the script (`IsEndedAt` in specs/Places.antt).
+//!
 //! No tests here: the cases run it, each in many ways, and the gate runs the program over examples/ and
 //! .ci/runs/.
 #![tactic(auto)]
@@ -30,4 +32,4 @@ mod valid;
 
 pub use law::{one_defined_run, valid_ranges};
 pub use og_script::MAX_SOURCE;
-pub use session::{run, run_gated};
+pub use session::{Ended, run, run_gated, run_located};

@@ -1,6 +1,6 @@
 //! The top call: the words, the source and the files in, the output, the files, the database and the exit
 //! status out.
-ghost use Rattle.std.specs.Prelude.{◌≡◌, [], ◌∷◌, ℕ, List, Some, OnOk};
+ghost use Rattle.std.specs.Prelude.{◌≡◌, [], ◌∷◌, ℕ, List, Some, None, OnOk, IfErr};
 ghost use Rattle.std.specs.Io.KnownBytes.{Appends};
 ghost use Rattle.og_io.specs.Folders.{Folder};
 ghost use Rattle.og_faults.specs.Counts.{IsAbsenceCount, IsFaultCount, is_file_fault, is_read_fault, is_unput, is_write_fault};
@@ -8,8 +8,10 @@ ghost use Rattle.og_faults.specs.Faults.{fault_line, status_of};
 ghost use Rattle.og_faults.specs.declared.fault.Fault.{Fault};
 ghost use Rattle.og_faults.specs.declared.stop.Stop.{Stop};
 ghost use Rattle.og_output.specs.Puts.{IsPut};
+ghost use Rattle.og_script.specs.Places.{IsKeptAt};
 ghost use Rattle.og_session.specs.Ends.{Ends, EndsWith, IsEndOf};
 ghost use Rattle.og_session.specs.Headline.{Headline};
+ghost use Rattle.og_session.specs.Places.{IsEndedAt};
 ghost use Rattle.og_session.specs.Runs.{IsDefinedRun, IsRun, Run};
 
 use crate::carry::carry_out;
@@ -20,8 +22,20 @@ use og_faults::{Stop, fault_of, status_of};
 use og_io::{Files, Sink, Source};
 use og_output::put_fault;
 use og_par::{Gate, OpenGate};
+use og_script::{Place, place_of_end};
 use std::alloc::Global;
 use std::thread::Threads;
+
+/// How a run ended.
+#[derive(Debug, Drop)]
+pub struct Ended {
+    /// The exit status.
+    pub status: u8,
+    /// The bytes of the source, where the command is `run` and they were read.
+    pub script: Vec<u8>,
+    /// The place of the fault in the script.
+    pub place: Option<Place>,
+}
 
 /// Runs the command that the words are over a database without names: `run` reads the source to its
 /// end as a script, `at` and `load` have a script of their own (docs/LANGUAGE.md, "Words"). The statements
@@ -100,9 +114,55 @@ pub fn run_gated<H: Threads + Sync, S: Source, K: Sink, F: Files, G: Gate + Sync
     }) }
     ensures untouched { ¬ IsRun words.now → src.new ≡ src.old }
 {
+    run_located(rt, alloc, words, src, out, files, db, gate).status
+}
+
+/// The same, with the place of the fault in the script.
+pub fn run_located<H: Threads + Sync, S: Source, K: Sink, F: Files, G: Gate + Sync>(
+    rt: &H,
+    alloc: Global,
+    words: &Words,
+    src: &mut S,
+    out: &mut K,
+    files: &mut F,
+    db: &mut Db,
+    gate: &G,
+) -> Ended
+    requires { db.old ≡ [] }
+    ensures headline { Headline (record {
+      words = words.now;
+      left = S.left src.old;
+      left_after = S.left src.new;
+      read_faults = S.faults src.old;
+      read_faults_after = S.faults src.new;
+      written = K.written out.old;
+      written_after = K.written out.new;
+      write_faults = K.faults out.old;
+      write_faults_after = K.faults out.new;
+      folder = F.folder files.old;
+      folder_after = F.folder files.new;
+      file_faults = F.faults files.old;
+      file_faults_after = F.faults files.new;
+      absences = F.absences files.old;
+      absences_after = F.absences files.new;
+      db = db.new;
+      status = result.status;
+    }) }
+    ensures untouched { ¬ IsRun words.now → src.new ≡ src.old }
+    ensures place { (source : List ℕ) (start : Folder) (run : Run) → IsRun words.now → S.left src.old ≡ Some source → F.folder files.old ≡ Some start → IsDefinedRun words.now source start run →
+        IsEndedAt source run.line result }
+    ensures no_place { ¬ IsRun words.now → result.place ≡ None }
+{
     one_defined_run();
-    let end = run_to_end(rt, alloc, words, src, out, files, db, gate);
-    status_of(&end)
+    let mut script = Vec::new(alloc);
+    let end = run_to_end(rt, alloc, words, src, out, files, db, gate, &mut script);
+    let place = place_of_end(script.as_slice(), &end);
+    let status = status_of(&end);
+    Ended {
+        status,
+        script,
+        place,
+    }
 }
 
 // Carries out the command, and writes the line of its fault, if it has one.
@@ -115,6 +175,7 @@ fn run_to_end<H: Threads + Sync, S: Source, K: Sink, F: Files, G: Gate + Sync>(
     files: &mut F,
     db: &mut Db,
     gate: &G,
+    script: &mut Vec<u8>,
 ) -> Result<(), Stop>
     requires { db.old ≡ [] }
     ensures told { (source : List ℕ) (start : Folder) (run : Run) → (IsRun words.now → S.left src.old ≡ Some source) → F.folder files.old ≡ Some start → IsDefinedRun words.now source start run →
@@ -127,8 +188,10 @@ fn run_to_end<H: Threads + Sync, S: Source, K: Sink, F: Files, G: Gate + Sync>(
     ensures files { IsFaultCount (is_file_fault result) (F.faults files.old) (F.faults files.new) }
     ensures writes { IsFaultCount (is_write_fault result) (K.faults out.old) (K.faults out.new) }
     ensures absences { IsAbsenceCount result (F.absences files.old) (F.absences files.new) }
+    ensures kept { (source : List ℕ) → IsRun words.now → S.left src.old ≡ Some source → IfErr result (IsKeptAt source script.new.items) }
+    ensures none_kept { ¬ IsRun words.now → script.new.items ≡ script.old.items }
 {
-    let end = carry_out(rt, alloc, words, src, out, files, db, gate);
+    let end = carry_out(rt, alloc, words, src, out, files, db, gate, script);
     let Some(fault) = fault_of(&end) else {
         return end;
     };

@@ -7,10 +7,12 @@ ghost use Rattle.std.specs.Prelude.{◌≡◌, ◌++◌, OnOk, drop, map, string
 use og_base::{NoMemory, Words};
 use og_db::Db;
 use og_io::{FolderFiles, StdSink, StdSource};
-use og_session::run;
+use og_par::OpenGate;
+use og_script::place_line;
+use og_session::{Ended, run_located};
 use std::env;
 use std::env::{Args, Env};
-use std::io::ErrorKind;
+use std::io::{Eprint, ErrorKind};
 use std::process::ExitCode;
 
 // The exit status where memory ran out for the words.
@@ -27,7 +29,7 @@ fn main(rt: HostRuntime) -> ExitCode {
             let mut out = StdSink::new(rt.stdout());
             let mut files = FolderFiles::new(&rt, rt.alloc());
             let mut db = Db::new(rt.alloc());
-            ExitCode::from(run(
+            let ended = run_located(
                 &rt,
                 rt.alloc(),
                 &words,
@@ -35,9 +37,23 @@ fn main(rt: HostRuntime) -> ExitCode {
                 &mut out,
                 &mut files,
                 &mut db,
-            ))
+                &OpenGate,
+            );
+            tell_place(&rt, &ended);
+            ExitCode::from(ended.status)
         }
         Err(status) => ExitCode::from(status),
+    }
+}
+
+// Writes to standard error where in the script the fault of the run stands, if it does. Nothing depends on whether
+// it can be written.
+fn tell_place(rt: &(impl Eprint + AllocGlobal), ended: &Ended) {
+    let Some(place) = ended.place else {
+        return;
+    };
+    if let Ok(line) = place_line(rt.alloc(), ended.script.as_slice(), place) {
+        let _ = rt.eprint(line.as_str());
     }
 }
 

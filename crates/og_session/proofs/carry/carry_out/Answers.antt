@@ -5,7 +5,9 @@ use Rattle.og_words.specs.declared.command.Command.TheVariants as commands
 use Rattle.og_script.specs.Scripts.{IsScriptOf}
 use Rattle.og_session.specs.Ends.{EndsUnreported}
 use Rattle.og_session.specs.Runs.{run_from}
-use Rattle.og_session.proofs.EndLemmas.{end_late, end_script, end_words, late_read, run_end, run_words, script_end, words_end}
+use Rattle.og_session.proofs.EndLemmas.{end_late, end_script, end_words, late_read, run_command, run_end, run_words, script_end, words_end}
+use Rattle.og_script.proofs.PlaceLemmas.{kept_whole}
+use Rattle.og_session.proofs.PlaceLemmas.{kept_words}
 use Rattle.og_session.proofs.StateLemmas.{state_at_start}
 use Rattle.og_session.proofs.carry.carry_out.Goals as goal
 
@@ -80,3 +82,29 @@ returns-clause-ended g c =
 
 pub returns-clause-reads : goal.returns-clause-reads
 returns-clause-reads g c = late_read c.run_statements.result _ _ c.run_statements.ensures.late c.in_ok-stmts.ensures.reads
+
+-- ---- what was kept of the source
+
+pub returns-in_err-command-clause-kept : goal.returns-in_err-command-clause-kept
+returns-in_err-command-clause-kept g c source run left =
+    let p = err_from_is_err_and c.from_residual.result c.from_residual.ensures.1 in
+    rw (p.1, p.2) (kept_words source c.args.script.now.items c.in_err-command.field-0.0)
+
+pub returns-in_err-stmts-clause-kept : goal.returns-in_err-stmts-clause-kept
+returns-in_err-stmts-clause-kept g c source run left =
+    let p = err_from_is_err_and c.from_residual-in_err-stmts.result c.from_residual-in_err-stmts.ensures.1 in
+    let command = run_command c.args.words.now c.in_ok-command.command c.defined_runs.ensures.command c.in_ok-command.ensures.command run in
+    rw (p.1, p.2) (c.in_err-stmts.ensures.kept_at source command left)
+
+pub returns-in_err-stmts-clause-none_kept : goal.returns-in_err-stmts-clause-none_kept
+returns-in_err-stmts-clause-none_kept g c none =
+    ap (λ v. v.items) (c.in_err-stmts.ensures.none_kept (λ r. none (run_words c.args.words.now c.in_ok-command.command c.in_ok-command.ensures.command r)))
+
+pub returns-clause-kept : goal.returns-clause-kept
+returns-clause-kept g c source run left =
+    let command = run_command c.args.words.now c.in_ok-command.command c.defined_runs.ensures.command c.in_ok-command.ensures.command run in
+    kept_whole source _ c.run_statements.result (c.in_ok-stmts.ensures.kept source command left)
+
+pub returns-clause-none_kept : goal.returns-clause-none_kept
+returns-clause-none_kept g c none =
+    ap (λ v. v.items) (c.in_ok-stmts.ensures.none_kept (λ r. none (run_words c.args.words.now c.in_ok-command.command c.in_ok-command.ensures.command r)))

@@ -2,6 +2,7 @@ use Rattle.std.proofs.Common.{Result, sym, subst}
 use Rattle.og_faults.specs.declared.stop.Stop.{Stop}
 use Rattle.og_session.specs.Ends.{Ends, EndsUnreported}
 use Rattle.og_session.proofs.EndLemmas.{end_unput, reported, unfaulted, unsaid}
+use Rattle.og_session.proofs.PlaceLemmas.{kept_put}
 use Rattle.og_session.proofs.session.run_to_end.Goals as goal
 
 pub returns-in_default-clause-told : goal.returns-in_default-clause-told
@@ -26,3 +27,6 @@ returns-clause-told g c source start run told files defined =
     let whole = reported run start c.carry_out-end.new.db folder _ _ _ c.in-Some.fault.now
     (e.0, e.1, subst (λ (r : Result (Unit {0}) Stop). EndsUnreported run start c.carry_out-end.new.db folder e.0 r) c.in-Some.ensures.fault e.2) c.in_default-put_fault.ensures.put in
     (whole.0, whole.1, subst (λ (r : Result (Unit {0}) Stop). Ends run start c.carry_out-end.new.db folder whole.0 r) (sym c.in-Some.ensures.fault) whole.2)
+
+pub returns-in-Err-clause-kept : goal.returns-in-Err-clause-kept
+returns-in-Err-clause-kept g c source run left = rw c.from.ensures (kept_put source _ c.in-Err.refusal)
