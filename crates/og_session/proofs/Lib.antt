@@ -9,6 +9,7 @@ pub mod DropViews
 pub mod EndLemmas
 pub mod FileLemmas
 pub mod FollowLemmas
+pub mod GrownLemmas
 pub mod HeadlineLemmas
 pub mod LeftLemmas
 pub mod LiveChecks

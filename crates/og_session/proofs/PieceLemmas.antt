@@ -1,5 +1,5 @@
 -- What statements write, over a database that is the world of each day.
-use Rattle.std.proofs.Common.{◌≡◌, ℕ, ℤ, List, [], ◌∷◌, Option, Some, None, map, codes, refl, sym, ap, ap₂, ◌∙◌}
+use Rattle.std.proofs.Common.{◌≡◌, ℕ, ℤ, List, [], ◌∷◌, Option, Some, None, map, codes, length, refl, sym, ap, ap₂, ◌∙◌}
 use Rattle.std.specs.Option.{option_map}
 use Rattle.std.proofs.lemmas.Option.{same_Some}
 use Rattle.og_base.specs.Calendar.{IsRefDay}
@@ -12,9 +12,9 @@ use Rattle.og_query.specs.declared.query.Query.{Query}
 use Rattle.og_query.specs.declared.typed.Typed.{Typed}
 use Rattle.og_query.specs.declared.typed.Typed.TheVariants as t
 use Rattle.og_db.specs.Database.{Relation, names_at}
-use Rattle.og_db.specs.Effects.{Effect, on_names}
+use Rattle.og_db.specs.Effects.{Effect, on_names, world_of_day}
 use Rattle.og_exec.specs.Tables.{rows_at}
-use Rattle.og_db.specs.Held.{Held, described, found, made_of, rows_of}
+use Rattle.og_db.specs.Held.{Held, all_made_of, described, found, made_of, rows_of}
 use Rattle.og_db.specs.Runs.{AreWithin, IsWorldOf, sizes_at}
 use Rattle.og_db.specs.Statements.{named_rows}
 use Rattle.og_output.specs.Records.{layout, names_text, records, what_word}
@@ -59,14 +59,20 @@ names-within [] (m ∷ b) v = absurd v
 names-within (h ∷ a) [] v = absurd v
 names-within (h ∷ a) (m ∷ b) v = ap₂ (λ r rs. r ∷ rs) (ap₂ (λ n w. n ∷ what_word w ∷ []) v.0.name (ap (λ k. k.0) v.0.what)) (names-within a b v.1)
 
--- the records of the names of a database are those of its sizes
-names-sizes : (db : List (Held Relation)) → map (name_record {V = Relation}) db ≡ map (name_record {V = ℕ}) (sizes_at db)
-names-sizes [] = refl
-names-sizes (h ∷ hs) = ap (λ rs. name_record h ∷ rs) (names-sizes hs)
+-- the records of the names of a database are those of what is made of it: its sizes, and its rows on a day
+names-made : {V : Type 0} (f : Relation → V) (db : List (Held Relation)) → map (name_record {V = Relation}) db ≡ map (name_record {V = V}) (all_made_of f db)
+names-made f [] = refl
+names-made f (h ∷ hs) = ap (λ rs. name_record h ∷ rs) (names-made f hs)
 
 -- TABLES writes the names of the database
 pub piece-tables : (db files : List (Held Relation)) (before : List Effect) → IsWorldOf db files before → names_text db ≡ piece_of before (on_names t.Tables)
-piece-tables db files before world = ap (λ rs. records ((codes "name" ∷ codes "what" ∷ []) ∷ rs)) (names-sizes db ∙ names-within (sizes_at db) _ world.sizes)
+piece-tables db files before world = ap (λ rs. records ((codes "name" ∷ codes "what" ∷ []) ∷ rs)) (names-made length db ∙ names-within (sizes_at db) _ world.sizes)
+
+-- and these are the names of the world of each day
+pub piece-names : (db files : List (Held Relation)) (before : List Effect) (d : ℤ) → IsWorldOf db files before → IsRefDay d → names_text (world_of_day d before).names ≡ piece_of before (on_names t.Tables)
+piece-names db files before d world is =
+    sym (ap names_text (world.names d is)) ∙ sym (ap (λ rs. records ((codes "name" ∷ codes "what" ∷ []) ∷ rs)) (names-made (λ rel. relation_at row_order row_at rel d) db))
+    ∙ piece-tables db files before world
 
 -- any statement but these five writes nothing
 pub others_write_nothing : (before : List Effect) (stmt : Typed) → ((name : List ℕ) (day : ℤ) → ¬ (stmt ≡ t.PrintName name day)) → ((query : Query) (day : ℤ) → ¬ (stmt ≡ t.PrintQuery query day))

@@ -1,6 +1,7 @@
 -- Where in its script a run ended.
 use Rattle.std.proofs.Common.{◌≡◌, ◌⊎◌, inl, inr, ℕ, List, [], ◌∷◌, Option, Some, None, IfErr, Result, Ok, Err, refl, sym, ap, ◌∙◌, subst, arith}
 use Rattle.std.specs.List.{Contains}
+use Rattle.std.proofs.lemmas.Bool.{le-ltb}
 use Rattle.og_io.specs.Folders.{Folder}
 use Rattle.og_io.specs.declared.sink.PutRefusal.{PutRefusal}
 use Rattle.og_io.specs.declared.sink.PutRefusal.TheVariants as puts
@@ -41,7 +42,7 @@ no_place script (Err (stops.Fault fault)) place none is = is.2 ∙ ap (λ z. pla
   where
     by : (offset : Option ℕ) → place_at [] offset ≡ None
     by None = refl
-    by (Some offset) = refl
+    by (Some offset) = rw (le-ltb offset 0 (omega arith)) refl
 no_place script (Err stops.ReadFault) place none is = is
 no_place script (Err stops.FileFault) place none is = is
 no_place script (Err stops.WriteFault) place none is = is
@@ -67,11 +68,11 @@ nowhere_else script source fault place (inr e) is =
 
 -- the place in what was kept is the place in the source
 kept_place : (source script : List ℕ) (fault : Fault) (place : Option Place) → IsKeptAt source script (stops.Fault fault) → IsPlaceOf script fault place → IsPlaceOf source fault place
-kept_place source script fault place (inl no) is = nowhere_else script source fault place no is
+kept_place source script fault place (inl away) is = nowhere_else script source fault place away is
 kept_place source script fault place (inr same) is = subst (λ z. IsPlaceOf z fault place) same is
 
 kept_script : (source script : List ℕ) (fault : Fault) (place : Option Place) → IsKeptAt source script (stops.Fault fault) → IsPlaceOf script fault place → (p : Place) → place ≡ Some p → script ≡ source
-kept_script source script fault place (inl no) is p some = absurd (by (sym (nowhere script fault place no is) ∙ some))
+kept_script source script fault place (inl away) is p some = absurd (by (sym (nowhere script fault place away is) ∙ some))
   where
     by : None ≡ Some p → ⊥
     by e = cc
@@ -79,19 +80,19 @@ kept_script source script fault place (inr same) is p some = same
 
 -- a fault with none of the statuses of a script, a statement or a file
 unplaced : (script : List ℕ) (fault : Fault) (place : Option Place) → ¬ Contains (3 ∷ 4 ∷ 5 ∷ []) (fault_status fault) → IsPlaceOf script fault place → place ≡ None
-unplaced script faults.Words place no is = is.2 ∙ ap (place_at script) is.1
-unplaced script faults.SourceTooLong place no is = is.2 ∙ ap (place_at script) is.1
-unplaced script (faults.BadByte offset) place no is = absurd (no (0, omega arith, refl))
-unplaced script (faults.OpenText offset) place no is = absurd (no (0, omega arith, refl))
-unplaced script (faults.NumberRange offset) place no is = absurd (no (0, omega arith, refl))
-unplaced script (faults.Syntax n) place no is = absurd (no (0, omega arith, refl))
-unplaced script (faults.TooDeep n) place no is = absurd (no (0, omega arith, refl))
-unplaced script (faults.Literal n) place no is = absurd (no (0, omega arith, refl))
-unplaced script (faults.Check n refusal) place no is = absurd (no (1, omega arith, refl))
-unplaced script (faults.NoFile n file) place no is = absurd (no (2, omega arith, refl))
-unplaced script (faults.Header n) place no is = absurd (no (2, omega arith, refl))
-unplaced script (faults.Record n number) place no is = absurd (no (2, omega arith, refl))
-unplaced script (faults.RowCount n said found) place no is = absurd (no (2, omega arith, refl))
+unplaced script faults.Words place un is = is.2 ∙ ap (place_at script) is.1
+unplaced script faults.SourceTooLong place un is = is.2 ∙ ap (place_at script) is.1
+unplaced script (faults.BadByte offset) place un is = absurd (un (0, omega arith, refl))
+unplaced script (faults.OpenText offset) place un is = absurd (un (0, omega arith, refl))
+unplaced script (faults.NumberRange offset) place un is = absurd (un (0, omega arith, refl))
+unplaced script (faults.Syntax n) place un is = absurd (un (0, omega arith, refl))
+unplaced script (faults.TooDeep n) place un is = absurd (un (0, omega arith, refl))
+unplaced script (faults.Literal n) place un is = absurd (un (0, omega arith, refl))
+unplaced script (faults.Check n refusal) place un is = absurd (un (1, omega arith, refl))
+unplaced script (faults.NoFile n file) place un is = absurd (un (2, omega arith, refl))
+unplaced script (faults.Header n) place un is = absurd (un (2, omega arith, refl))
+unplaced script (faults.Record n number) place un is = absurd (un (2, omega arith, refl))
+unplaced script (faults.RowCount n said found) place un is = absurd (un (2, omega arith, refl))
 
 -- an end that is no fault
 abbrev IsAt : List ℕ → List ℕ → ℕ → List ℕ → Option Place → Type 0
@@ -109,7 +110,7 @@ unfaulted {A} n a b c h = by (one_of_three 3 4 5 n h)
     by (inr (inr e)) = absurd (c e)
 
 other : (source line : List ℕ) (n : ℕ) (script : List ℕ) (place : Option Place) → (3 ≡ n → ⊥) → (4 ≡ n → ⊥) → (5 ≡ n → ⊥) → place ≡ None → IsAt source line n script place
-other source line n script place a b c none = (unfaulted n a b c, λ no. none, λ p some. absurd (by p (sym none ∙ some)))
+other source line n script place a b c none = (unfaulted n a b c, λ un. none, λ p some. absurd (by p (sym none ∙ some)))
   where
     by : (p : Place) → None ≡ Some p → ⊥
     by p e = cc
@@ -119,7 +120,7 @@ pub ended_at : (source : List ℕ) (run : Run) (start : Folder) (db : List (Held
     → IsPlaceOfEnd script end place → IfErr end (IsKeptAt source script) → Ends run start db folder text end → IsAt source run.line (status_of end) script place
 ended_at source run start db folder text script (Ok done) place is kept ends = other source run.line 0 script place (λ e. omega (arith, e)) (λ e. omega (arith, e)) (λ e. omega (arith, e)) is
 ended_at source run start db folder text script (Err (stops.Fault fault)) place is kept ends =
-    (λ h. (fault, ends.last, kept_place source script fault place kept is), λ no. unplaced script fault place no is, kept_script source script fault place kept is)
+    (λ h. (fault, ends.last, kept_place source script fault place kept is), λ un. unplaced script fault place un is, kept_script source script fault place kept is)
 ended_at source run start db folder text script (Err stops.ReadFault) place is kept ends = other source run.line 6 script place (λ e. omega (arith, e)) (λ e. omega (arith, e)) (λ e. omega (arith, e)) is
 ended_at source run start db folder text script (Err stops.FileFault) place is kept ends = other source run.line 7 script place (λ e. omega (arith, e)) (λ e. omega (arith, e)) (λ e. omega (arith, e)) is
 ended_at source run start db folder text script (Err stops.WriteFault) place is kept ends = other source run.line 8 script place (λ e. omega (arith, e)) (λ e. omega (arith, e)) (λ e. omega (arith, e)) is

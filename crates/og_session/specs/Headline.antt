@@ -150,6 +150,10 @@ pub record IsOutput (call : Call) (source : List ℕ) (start : Folder) (text : L
   pub front : (run : Run) → IsDefined call source start run → IsPrefix text (output run)
   pub whole : IsOneOf call (7 ∷ 8 ∷ 9 ∷ []) ⊎ ((call.status ≡ 6) × (text ≡ []) ⊎ ((run : Run) × IsDefined call source start run × (run.status ≡ call.status) × (text ≡ output run)))
 
+-- the bytes that were told stay, and more may stand behind them
+abbrev pub HasGrown : Option (List ℕ) → Option (List ℕ) → Type 0
+HasGrown old new = (text : List ℕ) × Appends old new text
+
 -- output
 abbrev pub HasOutput : Call → Type 0
 HasOutput call = (source : List ℕ) (start : Folder) → AreTold call source start → (text : List ℕ) × IsOutput call source start text

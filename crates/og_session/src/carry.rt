@@ -11,6 +11,7 @@ ghost use Rattle.og_script.specs.LiveTexts.{IsLiveStmt};
 ghost use Rattle.og_script.specs.Places.{IsKeptAt};
 ghost use Rattle.og_session.specs.Contents.{AreContents, Contents};
 ghost use Rattle.og_session.specs.Ends.{EndsUnreported, EndsWith, IsEndOf, RunEnds};
+ghost use Rattle.og_session.specs.Headline.{HasGrown};
 ghost use Rattle.og_session.specs.Runs.{IsDefinedRun, IsRun, Run, run_from};
 
 use crate::law::defined_runs;
@@ -51,6 +52,7 @@ pub fn carry_out<H: Threads + Sync, S: Source, K: Sink, F: Files, G: Gate + Sync
     ensures reads { IsFaultCount (is_read_fault result) (S.faults src.old) (S.faults src.new) }
     ensures files { IsFaultCount (is_file_fault result) (F.faults files.old) (F.faults files.new) }
     ensures writes { IsFaultCount (is_write_fault result) (K.faults out.old) (K.faults out.new) }
+    ensures grown { HasGrown (K.written out.old) (K.written out.new) }
     ensures absences { IsAbsenceCount result (F.absences files.old) (F.absences files.new) }
     ensures kept { (source : List ℕ) → IsRun words.now → S.left src.old ≡ Some source → IfErr result (IsKeptAt source script.new.items) }
     ensures none_kept { ¬ IsRun words.now → script.new.items ≡ script.old.items }
@@ -84,6 +86,7 @@ fn run_statements<H: Threads + Sync, K: Sink, F: Files, G: Gate + Sync>(
     ensures late { EndsWith (2 ∷ 3 ∷ 6 ∷ []) result → ⊥ }
     ensures files { IsFaultCount (is_file_fault result) (F.faults files.old) (F.faults files.new) }
     ensures writes { IsFaultCount (is_write_fault result) (K.faults out.old) (K.faults out.new) }
+    ensures grown { HasGrown (K.written out.old) (K.written out.new) }
     ensures absences { IsAbsenceCount result (F.absences files.old) (F.absences files.new) }
 {
     no_statements();
@@ -113,6 +116,7 @@ fn run_all<H: Threads + Sync, K: Sink, F: Files, G: Gate + Sync>(
     ensures late { EndsWith (2 ∷ 3 ∷ 6 ∷ []) result → ⊥ }
     ensures files { IsFaultCount (is_file_fault result) (F.faults files.old) (F.faults files.new) }
     ensures writes { IsFaultCount (is_write_fault result) (K.faults out.old) (K.faults out.new) }
+    ensures grown { HasGrown (K.written out.old) (K.written out.new) }
     ensures absences { IsAbsenceCount result (F.absences files.old) (F.absences files.new) }
 {
     no_statements();

@@ -7,11 +7,16 @@ ghost use Rattle.og_syntax.specs.declared.tree.Stmt.{Stmt};
 ghost use Rattle.og_words.specs.Grammar.{IsCommand};
 ghost use Rattle.og_words.specs.declared.command.Command as commands;
 ghost use Rattle.og_io.specs.Folders.{Folder};
-ghost use Rattle.og_db.specs.Effects.{Effect};
+ghost use Rattle.og_query.specs.declared.typed.Typed.TheVariants as t;
+ghost use Rattle.og_db.specs.Database.{Relation};
+ghost use Rattle.og_db.specs.Effects.{Effect, on_names, world_of_day};
+ghost use Rattle.og_db.specs.Held.{Held};
+ghost use Rattle.og_db.specs.Runs.{IsWorldOf};
 ghost use Rattle.og_faults.specs.Lines.{words_line};
 ghost use Rattle.og_script.specs.Scripts.{IsScript, IsScriptFault, IsScriptOf};
 ghost use Rattle.og_session.specs.Contents.{AreContents, Contents};
-ghost use Rattle.og_session.specs.Output.{printed, valid_range};
+ghost use Rattle.og_output.specs.Records.{names_text};
+ghost use Rattle.og_session.specs.Output.{piece_of, printed, valid_range};
 ghost use Rattle.og_session.specs.Runs.{IsDefinedRun, IsNoCommand, IsRun, Run, refused, run_from};
 
 use og_file::{
@@ -61,6 +66,12 @@ pub fn defined_runs()
 pub fn valid_ranges()
     ensures longest { (before : List Effect) (name : List ℕ) (day : ℤ) → IsRefDay day → IsLongest (λ d. printed before name d ≡ printed before name day) day (valid_range before name day) }
     ensures one { (before : List Effect) (name : List ℕ) (day : ℤ) (range : Range) → IsRefDay day → IsLongest (λ d. printed before name d ≡ printed before name day) day range → range ≡ valid_range before name day }
+{}
+
+/// On each day the world has the names that TABLES writes, each what TABLES says, and no others: which names there
+/// are does not depend on the day. It has nothing to do: it is called for this contract.
+pub fn names_of_each_day()
+    ensures { (names files : List (Held Relation)) (before : List Effect) (day : ℤ) → IsWorldOf names files before → IsRefDay day → names_text (world_of_day day before).names ≡ piece_of before (on_names t.Tables) }
 {}
 
 /// Any files hold something.

@@ -11,6 +11,7 @@ ghost use Rattle.og_db.specs.Effects.{Effect, on_names};
 ghost use Rattle.og_db.specs.Runs.{IsWorldOf};
 ghost use Rattle.og_faults.specs.Counts.{IsFaultCount, is_unput};
 ghost use Rattle.og_output.specs.Puts.{IsPut};
+ghost use Rattle.og_session.specs.Headline.{HasGrown};
 ghost use Rattle.og_session.specs.Output.{piece_of};
 
 use crate::answer::answer;
@@ -43,6 +44,7 @@ pub fn put_piece<H: Threads + Sync, K: Sink, G: Gate + Sync>(
     requires fits { IsFit (known_of names.now.names) stmt.now }
     ensures put { (files : List (Held Relation)) (before : List Effect) → IsWorldOf names.now.names files before → IsPut (K.written out.old) (K.written out.new) (piece_of before (on_names stmt.now)) result }
     ensures counted { IsFaultCount (is_unput result) (K.faults out.old) (K.faults out.new) }
+    ensures grown { HasGrown (K.written out.old) (K.written out.new) }
 {
     match stmt {
         Typed::PrintName { name, day } => put_name(
@@ -73,6 +75,7 @@ fn put_name<H: Threads + Sync, K: Sink, G: Gate + Sync>(
     requires most { workers ≤ max_workers }
     ensures put { (files : List (Held Relation)) (before : List Effect) → IsWorldOf names.now.names files before → IsPut (K.written out.old) (K.written out.new) (piece_of before (on_names (t.PrintName name.now day))) result }
     ensures counted { IsFaultCount (is_unput result) (K.faults out.old) (K.faults out.new) }
+    ensures grown { HasGrown (K.written out.old) (K.written out.new) }
 {
     found_names();
     // For its clause: the day is a reference day.
@@ -102,6 +105,7 @@ fn put_query<H: Threads + Sync, K: Sink, G: Gate + Sync>(
     requires fits { IsFitQuery (schemas_of (known_of names.now.names)) query.now }
     ensures put { (files : List (Held Relation)) (before : List Effect) → IsWorldOf names.now.names files before → IsPut (K.written out.old) (K.written out.new) (piece_of before (on_names (t.PrintQuery query.now day))) result }
     ensures counted { IsFaultCount (is_unput result) (K.faults out.old) (K.faults out.new) }
+    ensures grown { HasGrown (K.written out.old) (K.written out.new) }
 {
     found_names();
     names.rows_fit();

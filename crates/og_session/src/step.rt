@@ -12,6 +12,7 @@ ghost use Rattle.og_faults.specs.Counts.{IsAbsenceCount, IsFaultCount, is_file_f
 ghost use Rattle.og_script.specs.LiveTexts.{IsLiveStmt};
 ghost use Rattle.og_session.specs.Contents.{AreContents, Contents, effect_of, outcome, taken};
 ghost use Rattle.og_session.specs.Ends.{IsHeldState, IsPutStop, IsStepStop, StepEnds};
+ghost use Rattle.og_session.specs.Headline.{HasGrown};
 ghost use Rattle.og_session.specs.Lives.{IsLiveTyped};
 
 use crate::execute::execute;
@@ -53,6 +54,7 @@ pub fn step<H: Threads + Sync, K: Sink, F: Files, G: Gate + Sync>(
     ensures late { IsStepStop result }
     ensures files { IsFaultCount (is_file_fault result) (F.faults files.old) (F.faults files.new) }
     ensures writes { IsFaultCount (is_write_fault result) (K.faults out.old) (K.faults out.new) }
+    ensures grown { HasGrown (K.written out.old) (K.written out.new) }
     ensures absences { IsAbsenceCount result (F.absences files.old) (F.absences files.new) }
 {
     let Some(stmt) = left.pop() else {
@@ -81,6 +83,7 @@ fn carried<H: Threads + Sync, K: Sink, F: Files, G: Gate + Sync>(
     ensures late { IsStepStop result }
     ensures files { IsFaultCount (is_file_fault result) (F.faults files.old) (F.faults files.new) }
     ensures writes { IsFaultCount (is_write_fault result) (K.faults out.old) (K.faults out.new) }
+    ensures grown { HasGrown (K.written out.old) (K.written out.new) }
     ensures absences { IsAbsenceCount result (F.absences files.old) (F.absences files.new) }
 {
     known_names();
@@ -112,6 +115,7 @@ fn done<H: Threads + Sync, K: Sink, F: Files, G: Gate + Sync>(
     ensures late { IsStepStop result }
     ensures files { IsFaultCount (is_file_fault result) (F.faults files.old) (F.faults files.new) }
     ensures writes { IsFaultCount (is_write_fault result) (K.faults out.old) (K.faults out.new) }
+    ensures grown { HasGrown (K.written out.old) (K.written out.new) }
     ensures absences { IsAbsenceCount result (F.absences files.old) (F.absences files.new) }
 {
     match typed {
@@ -143,6 +147,7 @@ fn on_names<H: Threads + Sync, K: Sink, G: Gate + Sync>(
         (text : List ℕ) × Appends (K.written out.old) (K.written out.new) text × StepEnds start n before (Ok (on_names typed)) names.new folder text result }
     ensures stops { IsPutStop result }
     ensures writes { IsFaultCount (is_write_fault result) (K.faults out.old) (K.faults out.new) }
+    ensures grown { HasGrown (K.written out.old) (K.written out.new) }
 {
     if let Err(refusal) = put_piece(rt, alloc, &typed, workers, gate, names, out) {
         drop(typed);

@@ -9,6 +9,7 @@ ghost use Rattle.og_db.specs.Held.{Held, known_of};
 ghost use Rattle.og_db.specs.Runs.{IsWorldOf};
 ghost use Rattle.og_faults.specs.Counts.{IsFaultCount, is_unput};
 ghost use Rattle.og_output.specs.Puts.{IsPut};
+ghost use Rattle.og_session.specs.Headline.{HasGrown};
 ghost use Rattle.og_session.specs.Output.{piece_of, valid_range};
 
 use crate::names::Names;
@@ -32,6 +33,7 @@ pub fn put_valid<K: Sink>(
     requires { IsNamed (known_of names.now.names) name.now }
     ensures put { (files : List (Held Relation)) (before : List Effect) → IsWorldOf names.now.names files before → IsPut (K.written out.old) (K.written out.new) (piece_of before (on_names (t.Valid name.now day))) result }
     ensures counted { IsFaultCount (is_unput result) (K.faults out.old) (K.faults out.new) }
+    ensures grown { HasGrown (K.written out.old) (K.written out.new) }
 {
     let range = range_of(alloc, name, day, names)?;
     put(range_text(alloc, range)?.as_slice(), out)

@@ -9,6 +9,7 @@ use Rattle.og_session.proofs.EndLemmas.{end_late, end_script, end_words, late_re
 use Rattle.og_script.proofs.PlaceLemmas.{kept_whole}
 use Rattle.og_session.proofs.PlaceLemmas.{kept_words}
 use Rattle.og_session.proofs.StateLemmas.{state_at_start}
+use Rattle.og_session.proofs.GrownLemmas.{grown_none}
 use Rattle.og_session.proofs.carry.carry_out.Goals as goal
 
 pub returns-in_err-command-clause-told : goal.returns-in_err-command-clause-told
@@ -93,7 +94,7 @@ returns-in_err-command-clause-kept g c source run left =
 pub returns-in_err-stmts-clause-kept : goal.returns-in_err-stmts-clause-kept
 returns-in_err-stmts-clause-kept g c source run left =
     let p = err_from_is_err_and c.from_residual-in_err-stmts.result c.from_residual-in_err-stmts.ensures.1 in
-    let command = run_command c.args.words.now c.in_ok-command.command c.defined_runs.ensures.command c.in_ok-command.ensures.command run in
+    let command = run_command c.args.words.now c.in_ok-command.command (c.defined_runs.ensures.command c.args.words.now) c.in_ok-command.ensures.command run in
     rw (p.1, p.2) (c.in_err-stmts.ensures.kept_at source command left)
 
 pub returns-in_err-stmts-clause-none_kept : goal.returns-in_err-stmts-clause-none_kept
@@ -102,9 +103,15 @@ returns-in_err-stmts-clause-none_kept g c none =
 
 pub returns-clause-kept : goal.returns-clause-kept
 returns-clause-kept g c source run left =
-    let command = run_command c.args.words.now c.in_ok-command.command c.defined_runs.ensures.command c.in_ok-command.ensures.command run in
+    let command = run_command c.args.words.now c.in_ok-command.command (c.defined_runs.ensures.command c.args.words.now) c.in_ok-command.ensures.command run in
     kept_whole source _ c.run_statements.result (c.in_ok-stmts.ensures.kept source command left)
 
 pub returns-clause-none_kept : goal.returns-clause-none_kept
 returns-clause-none_kept g c none =
     ap (λ v. v.items) (c.in_ok-stmts.ensures.none_kept (λ r. none (run_words c.args.words.now c.in_ok-command.command c.in_ok-command.ensures.command r)))
+
+pub returns-in_err-command-clause-grown : goal.returns-in_err-command-clause-grown
+returns-in_err-command-clause-grown g c = grown_none _
+
+pub returns-in_err-stmts-clause-grown : goal.returns-in_err-stmts-clause-grown
+returns-in_err-stmts-clause-grown g c = grown_none _

@@ -8,6 +8,7 @@ use Rattle.og_db.specs.Runs.{stored}
 use Rattle.og_faults.proofs.CountLemmas.{absence_after, fault_after}
 use Rattle.og_script.specs.LiveTexts.{IsLiveStmt}
 use Rattle.og_session.specs.Runs.{run_from}
+use Rattle.og_session.proofs.GrownLemmas.{grown_more, grown_none}
 use Rattle.og_session.proofs.StopLemmas.{not_early}
 use Rattle.og_session.proofs.RunLemmas.{not_begun, turn-last, turn-more, turn-stopped}
 use Rattle.og_session.proofs.StateLemmas.{held_at_start, left_state}
@@ -21,6 +22,7 @@ stmts-init g c = record {
   live = recursion_from_All IsLiveStmt c.args.stmts c.requires.live;
   files = refl;
   writes = refl;
+  grown = grown_none _;
   absences = omega arith;
 }
 
@@ -56,6 +58,9 @@ returns-in_err-step-clause-writes g c =
     let p = err_from_is_err_and c.from_residual-in_err-step.result c.from_residual-in_err-step.ensures.1 in
     rw (p.1, p.2) (fault_after _ _ _ _ c.stmts.invariant.writes c.in_err-step.ensures.writes)
 
+pub returns-in_err-step-clause-grown : goal.returns-in_err-step-clause-grown
+returns-in_err-step-clause-grown g c = grown_more _ _ _ c.stmts.invariant.grown c.in_err-step.ensures.grown
+
 pub returns-in_err-step-clause-absences : goal.returns-in_err-step-clause-absences
 returns-in_err-step-clause-absences g c =
     let p = err_from_is_err_and c.from_residual-in_err-step.result c.from_residual-in_err-step.ensures.1 in
@@ -85,6 +90,7 @@ stmts-preserved g c =
       live = subst (AllByRecursion IsLiveStmt) (sym after) more;
       files = c.in_ok-step.ensures.files ∙ c.stmts.invariant.files;
       writes = c.in_ok-step.ensures.writes ∙ c.stmts.invariant.writes;
+      grown = grown_more _ _ _ c.stmts.invariant.grown c.in_ok-step.ensures.grown;
       absences = omega (arith, c.in_ok-step.ensures.absences, c.stmts.invariant.absences);
     }
 
@@ -92,3 +98,6 @@ pub returns-clause-ends : goal.returns-clause-ends
 returns-clause-ends g c start contents told holds =
     turn-last start contents c.args.stmts c.stmts.place c.stmts.names _ _ _ (c.stmts.invariant.at start contents told holds)
     (subst (λ n. n ≤ c.stmts.place) (ap length c.in_ok-left.ensures ∙ length-reverse c.args.stmts) (search rules))
+
+pub returns-in_err-left-clause-grown : goal.returns-in_err-left-clause-grown
+returns-in_err-left-clause-grown g c = grown_none _

@@ -4,6 +4,7 @@ use Rattle.std.specs.List.{AllByRecursion}
 use Rattle.og_io.specs.Folders.{Folder}
 use Rattle.og_script.specs.LiveTexts.{IsLiveStmt}
 use Rattle.og_session.specs.Contents.{AreContents, Contents}
+use Rattle.og_session.specs.Headline.{HasGrown}
 use Rattle.og_session.proofs.RunLemmas.{IsAt}
 use Rattle.og_session.proofs.carry.run_all.Given as goal
 
@@ -15,5 +16,6 @@ invariant-stmts g l = record {
   live : AllByRecursion IsLiveStmt (drop l.place l.fn.stmts);
   files : g.F.Files.faults l.files ≡ g.F.Files.faults l.fn.files;
   writes : g.K.Sink.faults l.out ≡ g.K.Sink.faults l.fn.out;
+  grown : HasGrown (g.K.Sink.written l.fn.out) (g.K.Sink.written l.out);
   absences : g.F.Files.absences l.fn.files ≤ g.F.Files.absences l.files;
 }

@@ -9,6 +9,7 @@ use Rattle.og_rel.specs.Relations.{relation_at}
 use Rattle.og_db.specs.Database.{Relation}
 use Rattle.og_db.specs.Held.{found, known_of, rows_of}
 use Rattle.og_output.specs.Puts.{IsPut}
+use Rattle.og_session.proofs.GrownLemmas.{grown_by_put, grown_none}
 use Rattle.og_session.proofs.PieceLemmas.{piece-name, layout-found, layout-unknown}
 use Rattle.og_session.proofs.pieces.put_name.Goals as goal
 
@@ -30,3 +31,9 @@ returns-clause-put g c files before world =
     layout-found on (found c.args.names.now.names c.args.name.now) c.in-Some.schema.now c.in-Some-rel.rel.now known held
     ∙ piece-name c.found_names.ensures.rows c.args.names.now.names files before world c.args.name.now c.args.day is_day in
     subst (λ t. IsPut (g.K.Sink.written c.args.out.now) (g.K.Sink.written c.put_relation.new.out) t c.put_relation.result) piece c.put_relation.ensures.put
+
+pub returns-in_default-clause-grown : goal.returns-in_default-clause-grown
+returns-in_default-clause-grown g c = grown_none _
+
+pub returns-clause-grown : goal.returns-clause-grown
+returns-clause-grown g c = grown_by_put _ _ _ c.put_relation.result c.put_relation.ensures.put

@@ -4,6 +4,7 @@ use Rattle.std.proofs.KnownBytes.{Appends-nil}
 use Rattle.og_db.specs.Effects.{on_names}
 use Rattle.og_output.specs.Puts.{IsPut}
 use Rattle.og_session.specs.Output.{piece_of}
+use Rattle.og_session.proofs.GrownLemmas.{grown_by_put, grown_none}
 use Rattle.og_session.proofs.PieceLemmas.{others_write_nothing, piece-tables}
 use Rattle.og_session.proofs.pieces.put_piece.Goals as goal
 
@@ -34,3 +35,12 @@ returns-in_ok-names_text-in-Tables-clause-put g c files before world =
     let text = c.as_slice.ensures.value ∙ c.in_ok-names_text-in-Tables.ensures ∙ c.held.ensures ∙ piece-tables c.args.names.now.names files before world in
     subst (λ stmt. IsPut (g.K.Sink.written c.args.out.now) (g.K.Sink.written c.put.new.out) (piece_of before (on_names stmt)) c.put.result) (sym c.in-Tables.is)
     (subst (λ t. IsPut (g.K.Sink.written c.args.out.now) (g.K.Sink.written c.put.new.out) t c.put.result) text c.put.ensures.put)
+
+pub returns-in-Explain-clause-grown : goal.returns-in-Explain-clause-grown
+returns-in-Explain-clause-grown g c = grown_by_put _ _ _ c.put_plan.result c.put_plan.ensures.put
+
+pub returns-in_default-clause-grown : goal.returns-in_default-clause-grown
+returns-in_default-clause-grown g c = grown_none _
+
+pub returns-in_ok-names_text-in-Tables-clause-grown : goal.returns-in_ok-names_text-in-Tables-clause-grown
+returns-in_ok-names_text-in-Tables-clause-grown g c = grown_by_put _ _ _ c.put.result c.put.ensures.put

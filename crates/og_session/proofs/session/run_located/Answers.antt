@@ -1,4 +1,7 @@
-use Rattle.std.proofs.Common.{◌∙◌, ap, sym}
+use Rattle.std.proofs.Common.{◌∙◌, ap, subst}
+use Rattle.og_script.specs.Places.{IsPlaceOfEnd}
+use Rattle.og_session.proofs.EndLemmas.{unmissed}
+use Rattle.og_session.proofs.GrownLemmas.{faults_rise}
 use Rattle.og_session.proofs.HeadlineLemmas.{headline}
 use Rattle.og_session.proofs.PlaceLemmas.{ended_at, no_place}
 use Rattle.og_session.proofs.session.run_located.Goals as goal
@@ -13,10 +16,24 @@ pub returns-clause-place : goal.returns-clause-place
 returns-clause-place g c source start run is left folder defined =
     let end = c.run_to_end-end.ensures in
     let told = end.told source start run (λ r. left) folder defined in
-    let at = ended_at source run start _ _ told.0 c.run_to_end-end.new.script.items c.run_to_end-end.result c.place_of_end-place.result
-        c.place_of_end-place.ensures (end.kept source is left) told.2 in
+    let script = c.run_to_end-end.new.script.items in
+    let placed = subst (λ z. IsPlaceOfEnd z c.run_to_end-end.result c.place_of_end-place.result) c.as_slice.ensures.value c.place_of_end-place.ensures in
+    let at = ended_at source run start c.run_to_end-end.new.db (g.F.Files.folder c.run_to_end-end.new.files) told.0 script c.run_to_end-end.result c.place_of_end-place.result placed (end.kept source is left) told.2 in
     rw c.status_of-status.ensures (record { fault = at.0; none = at.1; script = at.2 })
 
 pub returns-clause-no_place : goal.returns-clause-no_place
 returns-clause-no_place g c none =
-    no_place c.run_to_end-end.new.script.items c.run_to_end-end.result c.place_of_end-place.result (c.run_to_end-end.ensures.none_kept none ∙ c.new-script.ensures.items) c.place_of_end-place.ensures
+    no_place c.as_slice.result.now c.run_to_end-end.result c.place_of_end-place.result
+    (c.as_slice.ensures.value ∙ c.run_to_end-end.ensures.none_kept none ∙ c.new-script.ensures.items) c.place_of_end-place.ensures
+
+pub returns-clause-read_count : goal.returns-clause-read_count
+returns-clause-read_count g c = faults_rise _ _ _ c.run_to_end-end.ensures.reads
+
+pub returns-clause-write_count : goal.returns-clause-write_count
+returns-clause-write_count g c = faults_rise _ _ _ c.run_to_end-end.ensures.writes
+
+pub returns-clause-file_count : goal.returns-clause-file_count
+returns-clause-file_count g c = faults_rise _ _ _ c.run_to_end-end.ensures.files
+
+pub returns-clause-absence_count : goal.returns-clause-absence_count
+returns-clause-absence_count g c = unmissed c.run_to_end-end.result _ _ c.run_to_end-end.ensures.absences

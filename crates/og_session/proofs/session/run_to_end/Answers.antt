@@ -1,7 +1,9 @@
-use Rattle.std.proofs.Common.{Result, sym, subst}
+use Rattle.std.proofs.Common.{Result, Err, sym, subst}
+use Rattle.og_faults.specs.Faults.{fault_line}
 use Rattle.og_faults.specs.declared.stop.Stop.{Stop}
 use Rattle.og_session.specs.Ends.{Ends, EndsUnreported}
 use Rattle.og_session.proofs.EndLemmas.{end_unput, reported, unfaulted, unsaid}
+use Rattle.og_session.proofs.GrownLemmas.{grown_by_put, grown_more}
 use Rattle.og_session.proofs.PlaceLemmas.{kept_put}
 use Rattle.og_session.proofs.session.run_to_end.Goals as goal
 
@@ -30,3 +32,9 @@ returns-clause-told g c source start run told files defined =
 
 pub returns-in-Err-clause-kept : goal.returns-in-Err-clause-kept
 returns-in-Err-clause-kept g c source run left = rw c.from.ensures (kept_put source _ c.in-Err.refusal)
+
+pub returns-in-Err-clause-grown : goal.returns-in-Err-clause-grown
+returns-in-Err-clause-grown g c = grown_more _ _ _ c.carry_out-end.ensures.grown (grown_by_put _ _ (fault_line c.in-Some.fault.now) (Err c.in-Err.refusal) c.in-Err.ensures.put)
+
+pub returns-clause-grown : goal.returns-clause-grown
+returns-clause-grown g c = grown_more _ _ _ c.carry_out-end.ensures.grown (fault_line c.in-Some.fault.now, c.in_default-put_fault.ensures.put)

@@ -7,6 +7,7 @@ use Rattle.og_session.specs.Ends.{StepEnds}
 use Rattle.og_session.proofs.StopLemmas.{check_stopped}
 use Rattle.og_session.proofs.StateLemmas.{left_state}
 use Rattle.og_session.proofs.StepLemmas.{check-stopped, typed_live}
+use Rattle.og_session.proofs.GrownLemmas.{grown_none}
 use Rattle.og_session.proofs.step.carried.Goals as goal
 
 pub done-requires-clause-live : goal.done-requires-clause-live
@@ -36,3 +37,6 @@ returns-in-Err-clause-writes g c = rw c.of_check.ensures (check_counted c.args.n
 
 pub returns-in-Err-clause-absences : goal.returns-in-Err-clause-absences
 returns-in-Err-clause-absences g c = rw c.of_check.ensures (check_counted c.args.number c.in-Err.refusal _).2
+
+pub returns-in-Err-clause-grown : goal.returns-in-Err-clause-grown
+returns-in-Err-clause-grown g c = grown_none _

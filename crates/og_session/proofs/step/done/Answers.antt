@@ -4,6 +4,7 @@ use Rattle.og_session.specs.Contents.{effect_of, taken}
 use Rattle.og_session.specs.Ends.{StepEnds}
 use Rattle.og_session.proofs.StopLemmas.{step_by_put}
 use Rattle.og_session.proofs.StepLemmas.{effect-names, of_names}
+use Rattle.og_session.proofs.GrownLemmas.{grown_none}
 use Rattle.og_session.proofs.step.done.Goals as goal
 
 pub on_names-requires-clause-names : goal.on_names-requires-clause-names
@@ -29,3 +30,12 @@ returns-in_default-clause-ends g c start contents holds before state =
 
 pub returns-in_default-clause-late : goal.returns-in_default-clause-late
 returns-in_default-clause-late g c = step_by_put c.on_names.result c.on_names.ensures.stops
+
+pub returns-in-Save-clause-grown : goal.returns-in-Save-clause-grown
+returns-in-Save-clause-grown g c = grown_none _
+
+pub returns-in-OpenFile-clause-grown : goal.returns-in-OpenFile-clause-grown
+returns-in-OpenFile-clause-grown g c = grown_none _
+
+pub returns-in-ImportFile-clause-grown : goal.returns-in-ImportFile-clause-grown
+returns-in-ImportFile-clause-grown g c = grown_none _
