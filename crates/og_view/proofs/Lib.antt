@@ -7,9 +7,12 @@ pub mod InsertedLemmas
 pub mod LiveLemmas
 pub mod MoreLemmas
 pub mod NarrowedLemmas
+pub mod NumberLemmas
 pub mod OnceLemmas
+pub mod PartLemmas
 pub mod PlacedLemmas
 pub mod RederivedLemmas
+pub mod SameLemmas
 pub mod SieveLemmas
 pub mod TakenLemmas
 pub mod TouchedLemmas

@@ -15,17 +15,17 @@ use Rattle.og_rel.specs.Relations.{present}
 use Rattle.og_query.specs.Combinations.{combinations}
 use Rattle.og_query.specs.Fits.{Schemas, IsAsNamed}
 use Rattle.og_query.specs.Conditions.{truth}
-use Rattle.og_query.specs.Queries.{Fixed, image, ordinary_query}
+use Rattle.og_query.specs.Queries.{Fixed, image}
 use Rattle.og_query.specs.declared.query.Core.{Core}
 use Rattle.og_query.specs.declared.query.From1.{From1}
 use Rattle.og_query.proofs.QueryLemmas.{rows_ordered}
 use Rattle.og_exec.specs.Tables.{Relations, rows_at, rows_on, rows_or_none}
 use Rattle.og_db.specs.Database.{Relation, HaveKinds}
 use Rattle.og_view.specs.Bases.{AreHeld}
-use Rattle.og_view.specs.Placed.{beside, columns_at, gets, more_lists, place_rels, place_schemas, placed_core, placed_query}
+use Rattle.og_view.specs.Parts.{beside_at}
+use Rattle.og_view.specs.Placed.{beside, gets, more_lists}
 use Rattle.og_view.specs.Rows.{rows_over, turns}
-use Rattle.og_view.proofs.GrownLemmas.{core_rows-over}
-use Rattle.og_view.proofs.PlacedLemmas.{named_at, place_reads, sided}
+use Rattle.og_view.proofs.PlacedLemmas.{beside-by_place, by_place, named_at, sided}
 
 module _ (rows new : From1 → List Fixed) where
   -- the new rows at one place, and the rows of the tables at the others
@@ -96,13 +96,12 @@ module _ (d : ℤ) (named : Relations) (name : List ℕ) (new : Relation) where
   sided_turned zero (one ∷ tables) table within here = ap (λ b. rows_on (if b then new else []) d ∷ map table_rows tables) (sym here)
   sided_turned (suc place) (one ∷ tables) table within here = ap (λ lists. table_rows one ∷ lists) (sided_turned place tables table (omega (arith, within)) here)
 
-  -- the query of the core over names by place has the rows over the turn of the place
+  -- the places have the turn of the place
   pub rows_at_place : (core : Core) (place : ℕ) (table : From1) → place < length core.tables → bytes_eq name (slice_index_or core.tables place table).name ≡ true
-      → ordinary_query d (rows_at (place_rels named new place core.tables) d) (placed_query core) ≡ rows_over d core (slice_index_or (more_lists d named name new core) place [])
+      → rows_over d core (by_place (λ k. rows_or_none (beside_at named new place core.tables k) d) core.tables) ≡ rows_over d core (slice_index_or (more_lists d named name new core) place [])
   rows_at_place core place table within here =
-      core_rows-over d (placed_core core) (rows_at (place_rels named new place core.tables) d) refl
-      ∙ ap (rows_over d core)
-      (place_reads named new (λ o. rows_or_none o d) place core.tables ∙ sided_turned place core.tables table within here ∙ sym (turn_at table_rows new_rows place core.tables within))
+      ap (rows_over d core)
+      (beside-by_place named new (λ o. rows_or_none o d) place core.tables ∙ sided_turned place core.tables table within here ∙ sym (turn_at table_rows new_rows place core.tables within))
 
   -- no combinations where the place gets nothing
   none_turned : (place : ℕ) (tables : List From1) (table : From1) → place < length tables → new_rows (slice_index_or tables place table) ≡ []
@@ -146,13 +145,7 @@ module _ (schemas : Schemas) (named : Relations) (held : AreHeld schemas named) 
   side k table there true at = (new, refl, fit_there table (ap (slice_get tables) (sym (eqb-true k place at)) ∙ there))
   side k table there false at = held table.name table.schema (named_at schemas tables all k table there)
 
-  at_place : (k : ℕ) (columns : List Column) (o : Option From1) → slice_get tables k ≡ o → columns_at o ≡ Some columns
-      → (rel : Relation) × (beside named new place k o ≡ Some rel) × HaveKinds columns rel
-  at_place k columns None there as_known = cc as_known
-  at_place k columns (Some table) there as_known =
-      subst (λ columns. (rel : Relation) × (beside named new place k (Some table) ≡ Some rel) × HaveKinds columns rel) (same_Some table.schema columns as_known) (side k table there (k == place) refl)
-
   -- each place has its relation
-  pub places_held : AreHeld (place_schemas tables) (place_rels named new place tables)
-  places_held [] columns as_known = cc as_known
-  places_held (letter ∷ name) columns as_known = at_place (length name) columns (slice_get tables (length name)) refl as_known
+  pub places_there : (k : ℕ) (table : From1) → slice_get tables k ≡ Some table → (rel : Relation) × (beside_at named new place tables k ≡ Some rel) × HaveKinds table.schema rel
+  places_there k table there =
+      let one = side k table there (k == place) refl in (one.0, ap (beside named new place k) there ∙ one.1, one.2)

@@ -1,26 +1,19 @@
--- A core over tables of which one is narrowed by a test of a column that the items hand through: its rows are those whose item passes the test.
-use Rattle.std.proofs.Common.{◌≡◌, ◌++◌, ◌+◌, ◌-◌, ◌<◌, ◌&&◌, ℕ, ℤ, zero, suc, Bool, true, false, List, [], ◌∷◌, Some, length, map, filter, slice_get, slice_index_or, refl, sym, ap, ◌∙◌, arith}
+-- Combinations of lists of which one is narrowed by a test of a column: those whose column passes the test.
+use Rattle.std.proofs.Common.{◌≡◌, ◌≤◌, ◌++◌, ◌+◌, ◌-◌, ◌<◌, ◌&&◌, ℕ, zero, suc, Bool, true, false, List, [], ◌∷◌, length, filter, if◌then◌else◌, slice_index_or, take, refl, sym, ap, ◌∙◌, arith}
 use Rattle.std.specs.Bool.{⊤}
 use Rattle.std.specs.List.{All, list_any}
-use Rattle.og_base.proofs.SetLemmas.{filter-set_of}
+use Rattle.std.proofs.lemmas.List.Elements.{All-head, All-tail, All-weaker}
 use Rattle.og_base.proofs.SetMembers.{list_any-filter}
 use Rattle.og_value.specs.declared.value.FixedValue.{FixedValue}
-use Rattle.og_rel.proofs.AlgebraLemmas.{same_set_by_tests}
 use Rattle.og_join.proofs.PlaceTests.{list_any-and, list_any-known}
 use Rattle.og_query.specs.Combinations.{combinations}
-use Rattle.og_query.specs.Conditions.{truth}
-use Rattle.og_query.specs.Expressions.{meaning, no_value}
-use Rattle.og_query.specs.Queries.{Fixed, image}
-use Rattle.og_query.specs.declared.expression.Expr.{Expr}
-use Rattle.og_query.specs.declared.expression.Expr.TheVariants as expr
-use Rattle.og_query.specs.declared.query.Core.{Core}
-use Rattle.og_query.proofs.Equations.{meaning-Column}
+use Rattle.og_query.specs.Expressions.{no_value}
+use Rattle.og_query.specs.Queries.{Fixed}
 use Rattle.og_query.proofs.ProductLemmas.{list_any-combinations}
-use Rattle.og_query.proofs.QueryLemmas.{rows_ordered}
 use Rattle.og_plan.proofs.MeaningHomes.{columns}
 use Rattle.og_plan.proofs.MeaningPlaces.{at_first, at_second}
-use Rattle.og_view.specs.Rows.{rows_over}
-use Rattle.og_view.proofs.GrownLemmas.{any_over}
+use Rattle.og_view.specs.Sieves.{Keys, is_among, meets, tests_from}
+use Rattle.og_view.specs.Sieves as sieves
 
 -- each row of a list has so many columns, list by list
 abbrev pub HaveWidths : List ℕ → List (List Fixed) → Type 0
@@ -55,7 +48,7 @@ module _ (test : FixedValue → Bool) (place : ℕ) (back : List (List Fixed)) (
   passes row = test (slice_index_or row place no_value)
 
   -- of some combination with a narrowed list: of some combination whose column passes
-  any_narrowed : (t : Fixed → Bool) (widths : List ℕ) (front : List (List Fixed)) → HaveWidths widths front
+  pub any_narrowed : (t : Fixed → Bool) (widths : List ℕ) (front : List (List Fixed)) → HaveWidths widths front
       → list_any t (combinations (front ++ filter passes rows ∷ back))
       ≡ list_any (λ row. test (slice_index_or row (columns widths + place) no_value) && t row) (combinations (front ++ rows ∷ back))
   any_narrowed t [] [] wide =
@@ -83,25 +76,58 @@ module _ (test : FixedValue → Bool) (place : ℕ) (back : List (List Fixed)) (
       moved : (row rest : Fixed) → length row ≡ width → slice_index_or rest (columns widths + place) no_value ≡ slice_index_or (row ++ rest) (width + columns widths + place) no_value
       moved row rest is = sym (behind row rest width (columns widths + place) is) ∙ ap (λ k. slice_index_or (row ++ rest) k no_value) (assoc width (columns widths) place)
 
-  module _ (d : ℤ) (core : Core) (widths : List ℕ) (front : List (List Fixed)) (wide : HaveWidths widths front) (item : ℕ)
-      (through : slice_get core.items item ≡ Some (expr.Column (columns widths + place))) where
-    -- the image has the column at the place of the item
-    handed : (row : Fixed) → slice_index_or (image d core.items row) item no_value ≡ slice_index_or row (columns widths + place) no_value
-    handed row = at core.items item through ∙ meaning-Column d row (columns widths + place)
-      where
-        at : (items : List Expr) (k : ℕ) → slice_get items k ≡ Some (expr.Column (columns widths + place)) → slice_index_or (map (meaning d row) items) k no_value ≡ meaning d row (expr.Column (columns widths + place))
-        at [] k is = cc is
-        at (x ∷ items) zero is = let same : x ≡ expr.Column (columns widths + place) = cc is in ap (meaning d row) same
-        at (x ∷ items) (suc k) is = at items k is
+-- a list of which each passes is kept whole
+pub filter_every : {X : Type 0} (p : X → Bool) (xs : List X) → All (λ x. p x ≡ true) xs → filter p xs ≡ xs
+filter_every p [] all = refl
+filter_every p (x ∷ xs) all =
+    ap (λ b. if b then x ∷ filter p xs else filter p xs) (All-head (λ y. p y ≡ true) x xs all) ∙ ap (λ ys. x ∷ ys) (filter_every p xs (All-tail (λ y. p y ≡ true) x xs all))
 
-    -- the rows over a narrowed list are those whose item passes
-    pub rows_over-narrowed : filter (λ out. test (slice_index_or out item no_value)) (rows_over d core (front ++ rows ∷ back)) ≡ rows_over d core (front ++ filter passes rows ∷ back)
-    rows_over-narrowed =
-        filter-set_of rows_ordered (λ out. test (slice_index_or out item no_value)) _
-        ∙ same_set_by_tests rows_ordered _ _
-        (λ t. list_any-filter t (λ out. test (slice_index_or out item no_value)) _
-        ∙ any_over d core (λ out. test (slice_index_or out item no_value) && t out) (combinations (front ++ rows ∷ back))
-        ∙ (λ i. list_any (λ row. truth d row core.cond && (test (handed row i) && t (image d core.items row))) (combinations (front ++ rows ∷ back)))
-        ∙ (λ i. list_any (λ row. and_swap (truth d row core.cond) (test (slice_index_or row (columns widths + place) no_value)) (t (image d core.items row)) i) (combinations (front ++ rows ∷ back)))
-        ∙ sym (any_narrowed (λ row. truth d row core.cond && t (image d core.items row)) widths front wide)
-        ∙ sym (any_over d core t (combinations (front ++ filter passes rows ∷ back))))
+-- both of two truths
+pub first_of : (a b : Bool) → (a && b) ≡ true → a ≡ true
+first_of true b e = refl
+first_of false b e = cc e
+
+pub second_of : (a b : Bool) → (a && b) ≡ true → b ≡ true
+second_of true b e = e
+second_of false b e = cc e
+
+-- three truths, of which two come together
+two_and : (p a u : Bool) → (p && (a && u)) ≡ ((a && p) && u)
+two_and true true u = refl
+two_and true false u = refl
+two_and false true u = refl
+two_and false false u = refl
+
+module _ (widths : List ℕ) (front : List (List Fixed)) (wide : HaveWidths widths front) (rows : List Fixed) (back : List (List Fixed)) where
+  -- tests that all rows of a list pass, all combinations pass, each with its place in these
+  pub any_passing : (keys : List Keys) (place : ℕ) → All (λ row. place + length keys ≤ length row) rows → All (λ row. sieves.passes (tests_from place keys) row ≡ true) rows → (t : Fixed → Bool)
+      → list_any t (combinations (front ++ rows ∷ back)) ≡ list_any (λ row. sieves.passes (tests_from (columns widths + place) keys) row && t row) (combinations (front ++ rows ∷ back))
+  any_passing [] place long all t = refl
+  any_passing (one ∷ keys) place long all t =
+      ap (λ rows. list_any t (combinations (front ++ rows ∷ back)))
+      (sym (filter_every (λ row. meets row (place, one)) rows
+      (All-weaker (λ row. sieves.passes (tests_from place (one ∷ keys)) row ≡ true) (λ row. meets row (place, one) ≡ true)
+      (λ row e. first_of (meets row (place, one)) (sieves.passes (tests_from (suc place) keys) row) e) rows all)))
+      ∙ any_narrowed (is_among one) place back rows
+      (All-weaker (λ row. place + suc (length keys) ≤ length row) (λ row. place < length row) (λ row l. omega (arith, l)) rows long) t widths front wide
+      ∙ any_passing keys (suc place)
+      (All-weaker (λ row. place + suc (length keys) ≤ length row) (λ row. suc place + length keys ≤ length row) (λ row l. omega (arith, l)) rows long)
+      (All-weaker (λ row. sieves.passes (tests_from place (one ∷ keys)) row ≡ true) (λ row. sieves.passes (tests_from (suc place) keys) row ≡ true)
+      (λ row e. second_of (meets row (place, one)) (sieves.passes (tests_from (suc place) keys) row) e) rows all)
+      (λ row. meets row (columns widths + place, one) && t row)
+      ∙ (λ i. list_any (λ row. sieves.passes (tests_from (one_more (columns widths) place i) keys) row && (meets row (columns widths + place, one) && t row)) (combinations (front ++ rows ∷ back)))
+      ∙ (λ i. list_any (λ row. two_and (sieves.passes (tests_from (suc (columns widths + place)) keys) row) (meets row (columns widths + place, one)) (t row) i) (combinations (front ++ rows ∷ back)))
+    where
+      one_more : (m n : ℕ) → m + suc n ≡ suc (m + n)
+      one_more m n = omega arith
+
+-- lists, of which one stands at a place
+pub parted_at : (widths : List ℕ) (lists : List (List Fixed)) (place : ℕ) → HaveWidths widths lists → place < length widths
+    → (front : List (List Fixed)) × (back : List (List Fixed)) × (lists ≡ front ++ slice_index_or lists place [] ∷ back) × HaveWidths (take place widths) front
+    × All (λ row. length row ≡ slice_index_or widths place 0) (slice_index_or lists place [])
+parted_at [] lists place wide within = absurd (omega (arith, within))
+parted_at (width ∷ widths) [] place wide within = absurd wide
+parted_at (width ∷ widths) (rows ∷ lists) zero wide within = ([], lists, refl, tt, wide.0)
+parted_at (width ∷ widths) (rows ∷ lists) (suc place) wide within =
+    let rest = parted_at widths lists place wide.1 (omega (arith, within)) in
+    (rows ∷ rest.0, rest.1, ap (λ more. rows ∷ more) rest.2, (wide.0, rest.3), rest.4)

@@ -1,5 +1,5 @@
 -- Cores over names by place: what their places have, and what they have more when a name gets new rows.
-use Rattle.std.proofs.Common.{◌≡◌, ◌≤◌, ◌++◌, ◌+◌, ℕ, ℤ, zero, suc, ◌==◌, Bool, true, false, List, [], ◌∷◌, Option, Some, None, length, map, slice_get, if◌then◌else◌, refl, sym, ap, ap₂, ◌∙◌, subst, arith}
+use Rattle.std.proofs.Common.{◌≡◌, ◌≤◌, ◌<◌, ◌++◌, ◌+◌, ℕ, ℤ, zero, suc, ◌==◌, Bool, true, false, List, [], ◌∷◌, Option, Some, None, length, map, get_or, slice_get, if◌then◌else◌, refl, sym, ap, ap₂, ◌∙◌, subst, arith}
 use Rattle.std.specs.Cmp.Lexicographic.{same_text}
 use Rattle.std.specs.List.{All, flat_map, list_all, list_any}
 use Rattle.std.specs.Option.{option_map}
@@ -7,7 +7,7 @@ use Rattle.std.specs.Str.{bytes_eq}
 use Rattle.std.proofs.lemmas.Bool.{eq-eqb, eqb-false, eqb-true, ne_eqb}
 use Rattle.std.proofs.lemmas.List.{append-nil}
 use Rattle.std.proofs.lemmas.List.Elements.{All-cons, All-get_or, All-nil}
-use Rattle.std.proofs.lemmas.Option.{get_or_from_slice_get, slice_get_within}
+use Rattle.std.proofs.lemmas.Option.{get_or_from_slice_get, slice_get-get_or, slice_get_within}
 use Rattle.og_base.proofs.SetMembers.{list_any-set_of}
 use Rattle.og_value.specs.Values.{row_at}
 use Rattle.og_value.specs.Words.{is_word, folded}
@@ -21,7 +21,7 @@ use Rattle.og_query.proofs.QueryLemmas.{rows_ordered}
 use Rattle.og_exec.specs.Tables.{Relations, rows_at, rows_on, rows_or_none}
 use Rattle.og_db.specs.Database.{Relation}
 use Rattle.og_db.specs.Held.{Held, changed_at, found, made_of, rows_of}
-use Rattle.og_view.specs.Placed.{AreGrown, beside, columns_at, gets, letters, place_rels, place_schemas, placed, placed_from, placed_core, placed_query}
+use Rattle.og_view.specs.Placed.{AreGrown, beside, columns_at, gets, letters, place_schemas, placed, placed_from, placed_core, placed_query}
 use Rattle.og_view.specs.Rows.{IsAlike}
 
 -- one more letter
@@ -146,7 +146,8 @@ module _ {A : Type 0} where
     one_before place k None = refl
     one_before place k (Some table) = λ i. if one_off k place i then Some new else named table.name
 
-    beside-by_place : (place : ℕ) (tables : List From1) → by_place (λ k. read (beside named new place k (slice_get tables k))) tables ≡ sided place tables
+    -- and so in the order of the places
+    pub beside-by_place : (place : ℕ) (tables : List From1) → by_place (λ k. read (beside named new place k (slice_get tables k))) tables ≡ sided place tables
     beside-by_place zero [] = refl
     beside-by_place (suc place) [] = refl
     beside-by_place zero (table ∷ tables) = ap (λ rest. read (Some new) ∷ rest) (behind (λ k. k) tables)
@@ -154,15 +155,10 @@ module _ {A : Type 0} where
         ap₂ (λ x xs. x ∷ xs) (λ i. read (if none_less place i then Some new else named table.name))
         ((λ i. by_place (λ k. read (one_before place k (slice_get tables k) i)) tables) ∙ beside-by_place place tables)
 
-    -- what is read by the names of the places
-    pub place_reads : (place : ℕ) (tables : List From1) → map (λ table. read (place_rels named new place tables table.name)) (placed_from 0 tables) ≡ sided place tables
-    place_reads place tables =
-        placed-by_place (λ name. read (place_rels named new place tables name)) 0 tables
-        ∙ (λ i. by_place (λ k. read (beside named new place (number k i) (slice_get tables (number k i)))) tables)
-        ∙ beside-by_place place tables
-      where
-        number : (k : ℕ) → length (letters (0 + k)) ≡ k
-        number k = length-letters (0 + k) ∙ nothing_and k
+-- at its own place there are the new rows
+pub beside_here : (named : Relations) (new : Relation) (tables : List From1) (place : ℕ) (table : From1) → place < length tables → beside named new place place (slice_get tables place) ≡ Some new
+beside_here named new tables place table within =
+    ap (beside named new place place) (slice_get-get_or tables place table within) ∙ ap (λ b. if b then Some new else named (get_or tables place table).name) (eq-eqb place place refl)
 
 -- the rows of each name after one is changed
 pub rows_of-changed : {V : Type 0} (name : List ℕ) (g : V → V) (db : List (Held V)) (other : List ℕ) → rows_of (changed_at name g db) other ≡ option_map (λ rows. if bytes_eq name other then g rows else rows) (rows_of db other)

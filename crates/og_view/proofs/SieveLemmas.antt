@@ -1,5 +1,5 @@
 -- Rows that pass tests: that no day changes it, what a relation has of them on a day, and what some keys more make of it.
-use Rattle.std.proofs.Common.{◌≡◌, ◌≢◌, ◌++◌, ◌+◌, ◌&&◌, Contains, ℕ, ℤ, zero, suc, pos, Bool, true, false, not, List, [], ◌∷◌, length, filter, get_or, slice_get, slice_index_or, take, ◌<◌, Some, Ordering, Less, Equal, Greater, ◌≤◌, ◌||◌, refl, sym, ap, ap₂, ◌∙◌, arith}
+use Rattle.std.proofs.Common.{◌≡◌, ◌≢◌, ◌++◌, ◌+◌, ◌&&◌, Contains, ℕ, ℤ, zero, suc, pos, Bool, true, false, not, List, [], ◌∷◌, length, filter, get_or, slice_get, slice_index_or, take, ◌<◌, Option, Some, None, Ordering, Less, Equal, Greater, ◌≤◌, ◌||◌, refl, sym, ap, ap₂, ◌∙◌, arith}
 use Rattle.std.specs.List.{All, list_all, list_any}
 use Rattle.std.proofs.lemmas.List.{length-take-le, take_more}
 use Rattle.std.proofs.lemmas.List.Elements.{All-cons, All-contains, All-get_or, All-nil, filter-append}
@@ -8,6 +8,7 @@ use Rattle.std.specs.Ordering.{eq_by_cmp, int_cmp, match_ordering, nat_cmp}
 use Rattle.std.specs.Cmp.Lexicographic.{slice_cmp}
 use Rattle.std.proofs.lemmas.List.Folds.{list_all-append}
 use Rattle.std.proofs.lemmas.Option.{same_Some}
+use Rattle.std.specs.Option.{SomeIff}
 use Rattle.og_base.specs.Ranges.{Range, holds_day}
 use Rattle.og_base.proofs.SetLemmas.{filter-set_of}
 use Rattle.og_base.proofs.SetMembers.{list_any-filter}
@@ -25,7 +26,7 @@ use Rattle.og_query.proofs.QueryLemmas.{rows_ordered}
 use Rattle.og_plan.specs.Meaning.{column}
 use Rattle.og_exec.specs.Tables.{Relation, rows_on}
 use Rattle.og_view.specs.Sieves.{Keys, Test, is_among, meets, passes, row_meets, row_passes, sifted, tests_from}
-use Rattle.og_view.proofs.NarrowedLemmas.{and_swap}
+use Rattle.og_view.proofs.NarrowedLemmas.{and_swap, first_of, second_of}
 use Rattle.og_view.proofs.PlacedLemmas.{and_nothing, nothing_and, one_across}
 
 -- what is among keys on one day is on another
@@ -104,12 +105,29 @@ tests_from-push place [] keys = ap (λ n. (n, keys) ∷ []) (and_nothing place)
 tests_from-push place (one ∷ columns) keys =
     ap (λ rest. (place, one) ∷ rest) (tests_from-push (suc place) columns keys ∙ ap (λ n. tests_from (suc place) columns ++ (n, keys) ∷ []) (one_across place (length columns)))
 
--- the tests of the first columns and one more
-pub tests_from-more : (columns : List Keys) (i : ℕ) (keys : Keys) → i < length columns → keys ≡ slice_index_or columns i keys → tests_from 0 (take i columns) ++ (i, keys) ∷ [] ≡ tests_from 0 (take (i + 1) columns)
-tests_from-more columns i keys within is =
-    sym (ap (tests_from 0) (take_more columns i keys within ∙ ap (λ one. take i columns ++ one ∷ []) (sym is))
-    ∙ tests_from-push 0 (take i columns) keys
-    ∙ ap (λ n. tests_from 0 (take i columns) ++ (n, keys) ∷ []) (nothing_and (length (take i columns)) ∙ length-take-le i columns (omega (arith, within))))
+-- the tests of the first columns, from a place on, and one more
+pub tests_from-more : (start : ℕ) (columns : List Keys) (i : ℕ) (keys : Keys) → i < length columns → keys ≡ slice_index_or columns i keys
+    → tests_from start (take (i + 1) columns) ≡ tests_from start (take i columns) ++ (start + i, keys) ∷ []
+tests_from-more start columns i keys within is =
+    ap (tests_from start) (take_more columns i keys within ∙ ap (λ one. take i columns ++ one ∷ []) (sym is))
+    ∙ tests_from-push start (take i columns) keys
+    ∙ ap (λ n. tests_from start (take i columns) ++ (start + n, keys) ∷ []) (length-take-le i columns (omega (arith, within)))
+
+-- a row passes tests and one more where it passes those and meets that
+pub passes-push : (tests : List Test) (one : Test) (row : Fixed) → passes (tests ++ one ∷ []) row ≡ (passes tests row && (meets row one && true))
+passes-push tests one row = list_all-append (meets row) tests (one ∷ [])
+
+-- a test of a column whose place is told as a sum is one of that place
+pub meets-sum : (o : Option ℕ) (within : Type 0) (n place : ℕ) (keys : Keys) (row : Fixed) → SomeIff o within n → o ≡ Some place → meets row (n, keys) ≡ true → meets row (place, keys) ≡ true
+meets-sum None within n place keys row there is met = cc is
+meets-sum (Some m) within n place keys row there is met = ap (λ k. meets row (k, keys)) (sym (same_Some m place is) ∙ there.1) ∙ met
+
+-- so with one test of more columns
+pub passes-more : (start : ℕ) (columns : List Keys) (i : ℕ) (keys : Keys) (row : Fixed) → i < length columns → keys ≡ slice_index_or columns i keys
+    → passes (tests_from start (take (i + 1) columns)) row ≡ true → (passes (tests_from start (take i columns)) row ≡ true) × (meets row (start + i, keys) ≡ true)
+passes-more start columns i keys row within is passing =
+    let both = sym (ap (λ tests. passes tests row) (tests_from-more start columns i keys within is) ∙ passes-push (tests_from start (take i columns)) (start + i, keys) row) ∙ passing in
+    (first_of (passes (tests_from start (take i columns)) row) _ both, first_of (meets row (start + i, keys)) true (second_of (passes (tests_from start (take i columns)) row) _ both))
 
 -- of the first rows and one more those that pass
 pub sifted-more : (tests : List Test) (rel : Relation) (i : ℕ) (row : List Value) (days : List Range) → i < length rel

@@ -1,5 +1,7 @@
 pub mod Again
 pub mod Bases
+pub mod Numbers
+pub mod Parts
 pub mod Placed
 pub mod Plans
 pub mod Rows

@@ -54,11 +54,6 @@ abbrev pub beside : Relations → Relation → ℕ → ℕ → Option From1 → 
 beside named new place k None = None
 beside named new place k (Some table) = if k == place then Some new else named table.name
 
--- the relation of each name of a place
-abbrev pub place_rels : Relations → Relation → ℕ → List From1 → Relations
-place_rels named new place tables [] = None
-place_rels named new place tables (letter ∷ name) = beside named new place (length name) (slice_get tables (length name))
-
 -- the rows that a name gets, where one name gets new rows
 abbrev pub gets : List ℕ → Relation → List ℕ → Relation
 gets name new other = if bytes_eq name other then new else []

@@ -13,39 +13,15 @@ pub(crate) struct Change<'c, T> {
     pub(crate) new: &'c Rel<Row>,
 }
 
-// The places of a core, of which one has the new rows alone, and each other its table.
-#[derive(Drop)]
-pub(crate) struct Places<'p, T> {
-    pub(crate) tables: &'p [From1],
-    pub(crate) place: usize,
-    pub(crate) change: &'p Change<'p, T>,
-}
-
-impl<T: Tables<Row>> Places<'_, T> {
-    // The relation of a table at that place.
-    fn beside(&self, k: usize, table: &From1) -> Option<&Rel<Row>>
-        ensures { option_map (λ r. r.now) result ≡ (if k == self.now.place then Some self.now.change.now.new.now else T.named self.now.change.now.over.now table.now.name) }
+impl<T: Tables<Row>> Change<'_, T> {
+    // The relation of a table at that place, where one place has the new rows alone.
+    pub(crate) fn beside(&self, place: usize, k: usize, table: &From1) -> Option<&Rel<Row>>
+        ensures { option_map (λ r. r.now) result ≡ (if k == place then Some self.now.new.now else T.named self.now.over.now table.now.name) }
     {
-        if k == self.place {
-            return Some(self.change.new);
+        if k == place {
+            return Some(self.new);
         }
-        self.change.over.rel(table.name.bytes())
-    }
-}
-
-impl<T: Tables<Row>> Tables<Row> for Places<'_, T> {
-    ghost use Rattle.og_view.specs.Placed.{place_rels};
-
-    ghost named = { λ p. place_rels (T.named p.change.now.over.now) p.change.now.new.now p.place p.tables.now };
-
-    fn rel(&self, name: &[u8]) -> Option<&Rel<Row>> {
-        match name.split_first() {
-            Some((_, rest)) => match self.tables.get(rest.len()) {
-                Some(table) => self.beside(rest.len(), table),
-                None => None,
-            },
-            None => None,
-        }
+        self.over.rel(table.name.bytes())
     }
 }
 

@@ -6,7 +6,7 @@ ghost use Rattle.og_query.specs.Fits.{schemas_of};
 ghost use Rattle.og_exec.specs.Tables.{sizes_of};
 ghost use Rattle.og_db.specs.Database.{HaveKinds, IsTableOf, Relation};
 ghost use Rattle.og_db.specs.Held.{known_of, put_at, rows_of};
-ghost use Rattle.og_view.specs.Again.{rel_of};
+ghost use Rattle.og_view.specs.Parts.{rel_of};
 ghost use Rattle.og_view.specs.Bases.{IsPut, instead_at};
 ghost use Rattle.og_view.specs.Sieves.{sifted};
 
@@ -90,10 +90,7 @@ impl<'b, T: RowTest<Row>> Instead<'b, T> {
             rows.replace(self.test, self.more.passing(sieve)?)?;
             return Ok(Some(PartRows::Sifted(rows)));
         }
-        if sieve.tests.len() == 0 {
-            return Ok(Some(PartRows::All(own)));
-        }
-        Ok(Some(PartRows::Sifted(own.passing(sieve)?)))
+        Ok(Some(PartRows::of(own, sieve)?))
     }
 
     // Each base has a relation whose rows fit its columns.

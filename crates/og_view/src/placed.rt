@@ -1,20 +1,29 @@
 //! Cores over names by place, which are asked for what they have by new rows of a table.
-ghost use Rattle.std.specs.Prelude.{◌≡◌, ◌≤◌, ◌<◌, ◌+◌, ◌++◌, ℕ, ℤ, List, [], IfOk, OnOk, length, slice_index_or};
+ghost use Rattle.std.specs.Prelude.{◌≡◌, ◌≤◌, ◌<◌, ◌+◌, ◌++◌, ℕ, ℤ, Some, true, List, [], IfOk, IfSome, OnOk, length, slice_get, slice_index_or, take};
 ghost use Rattle.std.specs.List.{All, flat_map};
 ghost use Rattle.og_base.specs.Calendar.{IsRefDay};
 ghost use Rattle.og_base.specs.Set.{set_of};
 ghost use Rattle.og_par.specs.Limits.{max_workers};
 ghost use Rattle.og_value.specs.Order.{row_order};
+ghost use Rattle.og_query.specs.Conditions.{truth};
 ghost use Rattle.og_query.specs.Fits.{IsFitCore, IsFitQuery, Schemas};
+ghost use Rattle.og_query.specs.Queries.{Fixed};
+ghost use Rattle.og_query.specs.declared.query.From1.{From1};
 ghost use Rattle.og_exec.specs.Tables.{rows_on};
 ghost use Rattle.og_view.specs.Bases.{HasNew};
+ghost use Rattle.og_view.specs.Parts.{AreParts, IsPart, beside_at, width_of};
 ghost use Rattle.og_view.specs.Placed as spec;
-ghost use Rattle.og_view.specs.Placed.{cores_of, more_lists, more_rows, placed_query};
+ghost use Rattle.og_view.specs.Placed.{beside, cores_of, more_lists, more_rows, placed_query};
 ghost use Rattle.og_view.specs.Rows.{rows_over};
+ghost use Rattle.og_view.specs.Sieves.{passes, tests_from};
 
 use crate::asked::Asked;
-use crate::change::{Change, Places};
+use crate::change::Change;
+use crate::part::{Part, PartRows, Parts, handed};
+use crate::same::shared;
+use crate::sieve::{Keys, Sieve, keys_of};
 use og_base::NoMemory;
+use og_db::fitting_rows;
 use og_par::Gate;
 use og_query::{Core, From1, Query, copy_expressions};
 use og_rel::{Rel, Tables};
@@ -23,6 +32,9 @@ use sqlite_items::Items;
 use std::alloc::Global;
 use std::marker::Model;
 use std::thread::Threads;
+
+// So many new rows at most tell what other tables have to have beside them.
+const FEW_ROWS: usize = 1_000;
 
 // A core, and with its plan the query of that core alone over names by place.
 #[derive(Drop)]
@@ -107,7 +119,33 @@ impl Placed {
         Ok(Placed { core, asked })
     }
 
-    // Appends the rows that the core has by the new rows at one place, where the table there gets some.
+    // Tests of columns of the joined row that each passes of which the condition holds, where the table at a
+    // place has in its columns what is told.
+    fn tests_at<'k>(
+        &self,
+        alloc: Global,
+        place: usize,
+        keys: &'k [Keys],
+    ) -> Result<Sieve<'k>, NoMemory>
+        requires { place < length self.now.tables }
+        ensures { IfOk result (λ tests. (d : ℤ) (row : Fixed) → truth d row self.now.cond ≡ true →
+            passes (tests_from (width_of (take place self.now.tables)) keys.now) row ≡ true → passes tests row ≡ true) }
+    {
+        let tables = self.core.tables.as_slice();
+        match width_before(tables, place) {
+            Some(start) => {
+                let tests = Sieve::of(alloc, start, keys)?;
+                shared(&self.core.cond, tables.len(), tests)
+            }
+            None => Ok(Sieve {
+                tests: Vec::new(alloc),
+            }),
+        }
+    }
+
+    // Appends the rows that the core has by the new rows at one place, where the table there gets some. Where these
+    // are few, of the other tables those rows alone are joined that have in columns which the condition says are
+    // equal to some of the new rows what these have there.
     fn add_at<H: Threads + Sync, T: Tables<Row>, G: Gate + Sync>(
         &self,
         rt: &H,
@@ -125,14 +163,17 @@ impl Placed {
         ensures { OnOk result ((d : ℤ) → IsRefDay d → rows_on more.new d ≡ set_of row_order (rows_on more.old d
             ++ rows_over d self.now (slice_index_or (more_lists d (T.named change.now.over.now) change.now.name.now change.now.new.now self.now) place []))) }
     {
+        fitting_rows();
         let tables = self.core.tables.as_slice();
         if change.new.len() == 0 || *change.name != tables[place].name {
             return Ok(());
         }
-        let places = Places {
-            tables,
-            place,
-            change,
+        let columns = told(change.new.len(), tables[place].schema.len());
+        let keys = keys_of(alloc, change.new, columns)?;
+        let tests = self.tests_at(alloc, place, keys.as_slice())?;
+        let parts = parts_beside(alloc, &tests, tables, place, change)?;
+        let places = Parts {
+            parts: parts.as_slice(),
         };
         let rel = self.asked.answered(rt, alloc, &places, workers, gate)?;
         more.append(rel)
@@ -159,6 +200,63 @@ impl Placed {
         }
         Ok(())
     }
+}
+
+// So many columns, or none where the rows are many: then it takes more to gather what they have than it spares.
+fn told(rows: usize, columns: usize) -> usize
+    ensures { result ≤ columns }
+{
+    if rows <= FEW_ROWS { columns } else { 0 }
+}
+
+// How many columns the tables before a place have together, where that is no number too great.
+fn width_before(tables: &[From1], place: usize) -> Option<usize>
+    requires { place ≤ length tables.now }
+    ensures { IfSome result (λ width. width ≡ width_of (take place tables.now)) }
+{
+    let mut width: usize = 0;
+    'tables: for i in 0..place {
+        width = width.checked_add(tables[i].schema.len())?;
+    }
+    Some(width)
+}
+
+// The part of a table at that place, beside new rows at one place, that rows which pass the sieve can be made of.
+fn part_beside<'k, 't, T: Tables<Row>>(
+    alloc: Global,
+    sieve: &Sieve<'k>,
+    tables: &[From1],
+    place: usize,
+    k: usize,
+    change: &'t Change<'_, T>,
+) -> Result<Part<'k, 't>, NoMemory>
+    requires { k < length tables.now }
+    ensures { (table : From1) → slice_get tables.now k ≡ Some table →
+        IfOk result (IsPart (beside (T.named change.now.over.now) change.now.new.now place k (Some table)) sieve.now (take k tables.now) table) }
+{
+    let sieve = handed(alloc, sieve, tables, k)?;
+    let rows = match change.beside(place, k, &tables[k]) {
+        Some(rel) => Some(PartRows::of(rel, &sieve)?),
+        None => None,
+    };
+    Ok(Part { sieve, rows })
+}
+
+// Such parts of all tables.
+fn parts_beside<'k, 't, T: Tables<Row>>(
+    alloc: Global,
+    sieve: &Sieve<'k>,
+    tables: &[From1],
+    place: usize,
+    change: &'t Change<'_, T>,
+) -> Result<Vec<Part<'k, 't>>, NoMemory>
+    ensures { IfOk result (λ parts. AreParts (beside_at (T.named change.now.over.now) change.now.new.now place tables.now) sieve.now [] tables.now parts.items) }
+{
+    let mut parts = Vec::with_capacity(alloc, tables.len())?;
+    'places: for k in 0..tables.len() {
+        parts.push(part_beside(alloc, sieve, tables, place, k, change)?)?;
+    }
+    Ok(parts)
 }
 
 // The cores of a query, each with its plan.

@@ -1,10 +1,12 @@
 //! Sieves: what stands in the columns of some rows, so that other rows are told from them.
-ghost use Rattle.std.specs.Prelude.{◌≡◌, ◌++◌, ℤ, true, [], IsTrue, IfOk, OnOk, filter};
+ghost use Rattle.std.specs.Prelude.{◌≡◌, ◌++◌, ℕ, ℤ, Some, true, [], IsTrue, IfOk, OnOk, filter, length};
 ghost use Rattle.std.specs.List.{All};
 ghost use Rattle.og_value.specs.Values.{value_at};
 ghost use Rattle.og_value.specs.declared.value.FixedValue.{FixedValue};
-ghost use Rattle.og_view.specs.Sieves.{is_among, row_meets, row_passes, tests_from};
+ghost use Rattle.og_query.specs.Queries.{Fixed};
+ghost use Rattle.og_view.specs.Sieves.{is_among, meets, passes, row_meets, row_passes, tests_from};
 
+use crate::numbers::Numbers;
 use og_base::NoMemory;
 use og_rel::{Rel, RowTest};
 use og_value::{Row, Text, Value};
@@ -15,7 +17,7 @@ use std::marker::Model;
 // Numbers and texts.
 #[derive(Drop)]
 pub(crate) struct Keys {
-    numbers: BTreeSet<i64>,
+    numbers: Numbers,
     texts: BTreeSet<Text>,
 }
 
@@ -24,7 +26,7 @@ impl Model for Keys {
 
     ghost Value = { List ℤ × List (List ℕ) };
 
-    ghost view = { λ k. (k.numbers.keys, k.texts.keys) };
+    ghost view = { λ k. (k.numbers, k.texts.keys) };
 }
 
 impl Keys {
@@ -33,7 +35,7 @@ impl Keys {
         ensures { IfOk result (λ keys. All (λ p. row_meets p.0 (column, keys) ≡ true) rows.now) }
     {
         let mut keys = Keys {
-            numbers: BTreeSet::new(alloc),
+            numbers: Numbers::new(alloc),
             texts: BTreeSet::new(alloc),
         };
         'rows: for i in 0..rows.len() {
@@ -59,9 +61,7 @@ impl Keys {
         ensures kept { OnOk result ((x : FixedValue) → is_among self.old x ≡ true → is_among self.new x ≡ true) }
     {
         match value {
-            Value::Int(n) => {
-                self.numbers.insert(*n)?;
-            }
+            Value::Int(n) => self.numbers.insert(*n)?,
             Value::Text(text) => {
                 self.texts.insert(text.copy()?)?;
             }
@@ -99,15 +99,11 @@ impl Keys {
     }
 }
 
-// What rows have in each column, where they have as many as the first.
-pub(crate) fn keys_of(alloc: Global, rows: &Rel<Row>) -> Result<Vec<Keys>, NoMemory>
-    ensures { IfOk result (λ keys. All (λ p. row_passes (tests_from 0 keys.items) p.0 ≡ true) rows.now) }
+// What rows have in each of so many columns.
+pub(crate) fn keys_of(alloc: Global, rows: &Rel<Row>, width: usize) -> Result<Vec<Keys>, NoMemory>
+    ensures each { IfOk result (λ keys. All (λ p. row_passes (tests_from 0 keys.items) p.0 ≡ true) rows.now) }
+    ensures width { IfOk result (λ keys. length keys.items ≡ width) }
 {
-    let width = if rows.len() == 0 {
-        0
-    } else {
-        rows.row(0).len()
-    };
     let mut keys = Vec::with_capacity(alloc, width)?;
     'columns: for column in 0..width {
         keys.push(Keys::of(alloc, rows, column)?)?;
@@ -145,17 +141,38 @@ impl<'k> Model for Sieve<'k> {
 }
 
 impl<'k> Sieve<'k> {
-    // The sieve of the columns, each with what may stand in it.
-    pub(crate) fn of(alloc: Global, columns: &'k [Keys]) -> Result<Sieve<'k>, NoMemory>
-        ensures { IfOk result (λ sieve. sieve ≡ tests_from 0 columns.now) }
+    // A sieve of the columns from that one on, each with what may stand in it: what passes their tests passes it.
+    pub(crate) fn of(
+        alloc: Global,
+        start: usize,
+        columns: &'k [Keys],
+    ) -> Result<Sieve<'k>, NoMemory>
+        ensures { IfOk result (λ sieve. (row : Fixed) → passes (tests_from start columns.now) row ≡ true → passes sieve row ≡ true) }
     {
-        let mut tests = Vec::with_capacity(alloc, columns.len())?;
-        'columns: for column in 0..columns.len() {
-            let keys = &columns[column];
-            tests.push(Test { column, keys })?;
+        let mut tests = Vec::new(alloc);
+        'columns: for i in 0..columns.len() {
+            add_test(&mut tests, start.checked_add(i), &columns[i])?;
         }
         Ok(Sieve { tests })
     }
+}
+
+// Adds a test of the column, if there is one, but for a test that lets all days and periods pass.
+pub(crate) fn add_test<'k>(
+    tests: &mut Vec<Test<'k>>,
+    column: Option<usize>,
+    keys: &'k Keys,
+) -> Result<(), NoMemory>
+    ensures { OnOk result ((row : Fixed) → passes tests.old.items row ≡ true →
+        ((place : ℕ) → column ≡ Some place → meets row (place, keys.now) ≡ true) → passes tests.new.items row ≡ true) }
+{
+    if keys.is_empty() {
+        return Ok(());
+    }
+    if let Some(column) = column {
+        tests.push(Test { column, keys })?;
+    }
+    Ok(())
 }
 
 impl RowTest<Row> for Sieve<'_> {

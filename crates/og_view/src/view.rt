@@ -270,8 +270,8 @@ impl View {
             let none = Rel::new(alloc);
             return self.extend(rt, alloc, name, test, left, none, workers, gate);
         }
-        let keys = keys_of(alloc, &lost)?;
-        let sieve = Sieve::of(alloc, keys.as_slice())?;
+        let keys = keys_of(alloc, &lost, self.asked.query().first.schema.len())?;
+        let sieve = Sieve::of(alloc, 0, keys.as_slice())?;
         let again = self.again(rt, alloc, name, test, &left, &sieve, workers, gate)?;
         self.exchange(rt, alloc, name, test, left, &sieve, again, workers, gate)
     }
@@ -308,8 +308,8 @@ impl View {
         if lost.len() == 0 {
             return self.extend(rt, alloc, name, test, changed, more, workers, gate);
         }
-        let keys = keys_of(alloc, &lost)?;
-        let sieve = Sieve::of(alloc, keys.as_slice())?;
+        let keys = keys_of(alloc, &lost, self.asked.query().first.schema.len())?;
+        let sieve = Sieve::of(alloc, 0, keys.as_slice())?;
         let mut again = self.again(rt, alloc, name, test, parts.left, &sieve, workers, gate)?;
         again.append(more)?;
         self.exchange(rt, alloc, name, test, changed, &sieve, again, workers, gate)

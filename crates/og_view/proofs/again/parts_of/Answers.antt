@@ -1,18 +1,21 @@
-use Rattle.std.proofs.Common.{◌<◌, ◌≤◌, [], subst}
+use Rattle.std.proofs.Common.{[], ap, subst, sym, take}
 use Rattle.std.proofs.lemmas.List.{take_all}
 use Rattle.og_db.specs.Held.{rows_of}
-use Rattle.og_view.specs.Again.{AreParts}
-use Rattle.og_view.proofs.AgainLemmas.{parts_more}
+use Rattle.og_view.specs.Parts.{AreParts, IsPart, own, own_at}
+use Rattle.og_view.proofs.PartLemmas.{parts_more}
 use Rattle.og_view.proofs.again.parts_of.Goals as goal
 
 pub places-preserved : goal.places-preserved
 places-preserved g c =
-    let core = c.args.core.now in
-    parts_more (rows_of c.args.over.now) c.args.sieve.now core.items core.tables c.places.parts.items c.push.new.self.items c.in_ok-part_of.field-0 c.places.place c.in_ok-push.ensures.items
-    (subst (λ n. c.places.place < n) c.len-place-end.ensures c.places-test.true) c.in_ok-part_of.ensures c.places.invariant
+    let tables = c.args.tables.now in
+    let named = rows_of c.args.over.now in
+    let part = c.in_ok-part_of.field-0 in
+    parts_more c.args.sieve.now (own_at named tables) tables c.places.parts.items c.push.new.self.items part c.places.place c.in_ok-push.ensures.items
+    c.places-test.true
+    (λ table there. subst (λ o. IsPart o c.args.sieve.now (take c.places.place tables) table part) (ap (own named) (sym there)) (c.in_ok-part_of.ensures table there)) c.places.invariant
 
 pub returns : goal.returns
 returns g c =
-    let core = c.args.core.now in
-    subst (λ tables. AreParts (rows_of c.args.over.now) c.args.sieve.now core.items [] tables c.places.parts.items)
-    (take_all c.places.place core.tables (subst (λ n. n ≤ c.places.place) c.len-place-end.ensures c.places-test.false)) c.places.invariant
+    let tables = c.args.tables.now in
+    subst (λ some. AreParts (own_at (rows_of c.args.over.now) tables) c.args.sieve.now [] some c.places.parts.items)
+    (take_all c.places.place tables c.places-test.false) c.places.invariant

@@ -6,9 +6,9 @@ use Rattle.og_view.proofs.sieve.Keys.add.Goals as goal
 pub returns-in_ok-insert-in-Int-clause-kept : goal.returns-in_ok-insert-in-Int-clause-kept
 returns-in_ok-insert-in-Int-clause-kept c x is =
     ap (λ numbers. is_among (numbers, c.self.inside.texts.keys) x) c.in_ok-insert-in-Int.ensures.keys
-    ∙ number_keeps c.self.inside.numbers.keys c.self.inside.texts.keys _ x (ap (λ keys. is_among keys x) c.self.view_is ∙ is)
+    ∙ number_keeps c.self.inside.numbers c.self.inside.texts.keys _ x (ap (λ keys. is_among keys x) c.self.view_is ∙ is)
 
 pub returns-in_ok-insert-in-Text-clause-kept : goal.returns-in_ok-insert-in-Text-clause-kept
 returns-in_ok-insert-in-Text-clause-kept c x is =
-    ap (λ texts. is_among (c.self.inside.numbers.keys, texts) x) c.in_ok-insert-in-Text.ensures.keys
-    ∙ text_keeps c.self.inside.numbers.keys c.self.inside.texts.keys _ x (ap (λ keys. is_among keys x) c.self.view_is ∙ is)
+    ap (λ texts. is_among (c.self.inside.numbers, texts) x) c.in_ok-insert-in-Text.ensures.keys
+    ∙ text_keeps c.self.inside.numbers c.self.inside.texts.keys _ x (ap (λ keys. is_among keys x) c.self.view_is ∙ is)

@@ -1,5 +1,7 @@
-use Rattle.std.proofs.Common.{◌≡◌, [], true, ap, refl, subst, sym, ◌∙◌, arith}
+use Rattle.std.proofs.Common.{◌≡◌, [], true, pos, ap, refl, sym, ◌∙◌, arith}
 use Rattle.std.specs.List.{All}
+use Rattle.std.proofs.lemmas.List.Elements.{All-weaker}
+use Rattle.og_value.specs.Values.{row_at}
 use Rattle.og_rel.specs.Relations.{instead}
 use Rattle.og_exec.specs.Tables.{rows_on}
 use Rattle.og_view.specs.Bases.{instead_at}
@@ -32,7 +34,8 @@ exchange-requires-clause-law g c κs within d day =
     let lost = c.in_ok-lost.lost in
     let sieve = c.in_ok-sieve.sieve in
     let pass : All (λ p. row_passes sieve p.0 ≡ true) lost =
-    subst (λ tests. All (λ p. row_passes tests p.0 ≡ true) lost) (sym (c.in_ok-sieve.ensures ∙ ap (tests_from 0) c.as_slice.ensures.value)) c.in_ok-keys.ensures in
+    All-weaker (λ p. row_passes (tests_from 0 c.in_ok-keys.keys.items) p.0 ≡ true) (λ p. row_passes sieve p.0 ≡ true)
+    (λ p is. c.in_ok-sieve.ensures (row_at p.0 (pos 0)) (ap (λ columns. row_passes (tests_from 0 columns) p.0) c.as_slice.ensures.value ∙ is)) lost c.in_ok-keys.ensures.each in
     answer-replaced v.query c.kept.ensures.live v.bases (instead_at name passes parts.left.now v.bases) name parts.gone.now c.requires.shrinks sieve v.result lost c.in_ok-again.again pass d day
     (c.kept.ensures.law d day) (c.in_ok-lost.ensures d day) (c.in_ok-again.ensures d day)
     (instead_at name passes c.args.changed v.bases) parts.new.now c.in_ok-more.more c.requires.grows (c.in_ok-more.ensures d day)
