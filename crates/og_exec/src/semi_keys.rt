@@ -2,14 +2,13 @@
 ghost use Rattle.std.specs.Prelude.{◌≡◌};
 ghost use Rattle.std.specs.List.{list_any};
 ghost use Rattle.std.specs.Option.{is_some};
-ghost use Rattle.og_plan.specs.Joins as joins;
 ghost use Rattle.og_exec.specs.SemiKeys as meant;
 
 use crate::keys::place_in;
 use og_base::{DayCond, Groups, NoMemory, RtSet};
 use og_expr::PartDays;
 use og_ops::Matching;
-use og_plan::ColPair;
+use og_plan::{ColPair, across};
 use og_query::{Cond, Expr};
 use og_rel::Rel;
 use og_value::{Cmp, Row, Value};
@@ -91,27 +90,8 @@ fn pair_of(width: usize, part: &Cond) -> Option<ColPair>
             op: Cmp::Eq,
             left: Expr::Column(m),
             right: Expr::Column(n),
-        } => across(width, *m, *n),
+        } => across(width, Some(*m), Some(*n)),
         _ => None,
-    }
-}
-
-// The columns at two places of the glued row, where one is in the left row and one in the right.
-pub(crate) fn across(width: usize, m: usize, n: usize) -> Option<ColPair>
-    ensures { result ≡ joins.across width (Some m) (Some n) }
-{
-    if m < width && width <= n {
-        Some(ColPair {
-            left: m,
-            right: n - width,
-        })
-    } else if n < width && width <= m {
-        Some(ColPair {
-            left: n,
-            right: m - width,
-        })
-    } else {
-        None
     }
 }
 

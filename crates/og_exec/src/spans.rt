@@ -8,10 +8,9 @@ ghost use Rattle.og_query.specs.Queries.{Fixed};
 ghost use Rattle.og_plan.specs.Meaning.{all_hold, column};
 ghost use Rattle.og_exec.specs.Spans as meant;
 
-use crate::semi_keys::across;
 use og_base::{DayCond, ExtDay, FixedPeriod, Glue, NoMemory, RtSet};
 use og_join::Spans;
-use og_plan::ColPair;
+use og_plan::{ColPair, across};
 use og_query::{Cond, Expr};
 use og_rel::Rel;
 use og_value::{Pred, Row, Value};
@@ -173,7 +172,7 @@ fn overlap_in(width: usize, part: &Cond) -> Option<ColPair>
     ensures within { IfSome result (λ pair. pair.left < width) }
 {
     let (m, n) = overlapping(part)?;
-    across(width, m, n)
+    across(width, Some(m), Some(n))
 }
 
 // Two columns of which the condition says that their periods overlap.

@@ -46,7 +46,7 @@ pub trait Keys<R: Instant> {
 pub fn key_join<
     H: Threads + Sync,
     R: Glue + Drop + Sync + Send,
-    Q: Keys<R> + Sync,
+    Q: Keys<R>,
     C: DayCond<R> + Sync,
     G: Gate + Sync,
 >(
@@ -77,7 +77,7 @@ where
 pub fn key_join_with<
     H: Threads + Sync,
     R: Glue + Drop + Sync + Send,
-    Q: Keys<R> + Sync,
+    Q: Keys<R>,
     C: DayCond<R> + Sync,
     M: PairMap<R> + Sync,
     G: Gate + Sync,
@@ -116,7 +116,7 @@ where
 pub fn key_span_join<
     H: Threads + Sync,
     R: Glue + Drop + Sync + Send,
-    Q: Keys<R> + Sync,
+    Q: Keys<R>,
     S: Spans<R> + Sync,
     C: DayCond<R> + Sync,
     M: PairMap<R> + Sync,

@@ -12,8 +12,9 @@ use og_value::{Cmp, Kind, Pred};
 use sqlite_items::{Boxed, Items};
 use std::alloc::Global;
 
-// A column of an earlier item and one of the item whose columns begin at that place.
-fn across(start: usize, left: Option<usize>, right: Option<usize>) -> Option<ColPair>
+/// A column of an earlier item and one of the item whose columns begin at that place, where the two are
+/// such columns. Takes no memory.
+pub fn across(start: usize, left: Option<usize>, right: Option<usize>) -> Option<ColPair>
     ensures { result ≡ spec.across start left right }
 {
     let (Some(a), Some(b)) = (left, right) else {

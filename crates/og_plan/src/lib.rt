@@ -21,6 +21,7 @@ mod text;
 mod words;
 
 pub use cores::plan_of;
+pub use joins::across;
 pub use laws::fitting_queries;
 pub use plan::{ColPair, Plan, PlanSemi};
 pub use text::{PlanLine, explain, plan_lines};
