@@ -4,3 +4,4 @@ pub mod Devices
 pub mod FileCounts
 pub mod Folders
 pub mod Puts
+pub mod WholeFiles

@@ -1,15 +1,15 @@
-//! The files of the current folder. Nothing is told of what they hold.
-ghost use Rattle.std.specs.Prelude.{◌≡◌, ◌≤◌, [], None, Some, Err, OnOk, false};
+//! The files of the current folder. What a name holds is not told.
+ghost use Rattle.std.specs.Prelude.{◌≡◌, ◌≤◌, [], None, Some, Ok, Err, OnOk, false, length};
 ghost use Rattle.og_io.specs.BelowFolder.{is_below_folder};
 ghost use Rattle.og_io.specs.Folders.{HasFile, IsAnswer, FailsAsCounted, AbsentAsCounted};
+ghost use Rattle.og_io.specs.WholeFiles.{max_file, HandsOut, AreOfSomeFile, AreInSomeFile};
 
 use crate::files::{Files, FilesRefusal, Found};
 use crate::folder_names::is_below_folder;
-use crate::replaced::{open_file, read_whole, replace_file};
+use crate::replaced::{open_file, read_opened, replace_file};
 use og_value::Text;
 use std::alloc::Global;
 use std::fs;
-use std::io::ErrorKind;
 use std::marker::Model;
 
 /// The files of the current folder and of those below it. A name is one or more parts with `/` between
@@ -49,10 +49,38 @@ impl<'a, H: fs::Files> FolderFiles<'a, H> {
             absences: 0,
         }
     }
+
+    // Hands out what was read, and counts a fault or an absence.
+    fn hand_out(
+        &mut self,
+        read: Result<Option<Vec<u8>>, FilesRefusal>,
+    ) -> Result<Found, FilesRefusal>
+        ensures handed { HandsOut read result self.new.buffer }
+        ensures failed { FailsAsCounted result self.old.faults self.new.faults }
+        ensures absent { AbsentAsCounted result self.old.absences self.new.absences }
+    {
+        self.buffer.clear();
+        match read {
+            Ok(Some(bytes)) => {
+                self.buffer = bytes;
+                Ok(Found::Present)
+            }
+            Ok(None) => {
+                self.absences = self.absences.saturating_add(1);
+                Ok(Found::Absent)
+            }
+            Err(FilesRefusal::Failed) => {
+                self.faults = self.faults.saturating_add(1);
+                Err(FilesRefusal::Failed)
+            }
+            Err(FilesRefusal::NoMemory) => Err(FilesRefusal::NoMemory),
+        }
+    }
 }
 
 impl<'a, H: fs::Files> Files for FolderFiles<'a, H> {
     ghost use Rattle.og_io.specs.declared.files.FilesRefusal.{FilesRefusal};
+    ghost use Rattle.og_io.specs.declared.files.Found.{Found};
 
     ghost folder = { λ f. None };
 
@@ -68,34 +96,15 @@ impl<'a, H: fs::Files> Files for FolderFiles<'a, H> {
         ensures failed { FailsAsCounted result self.old.faults self.new.faults }
         ensures absent { AbsentAsCounted result self.old.absences self.new.absences }
         ensures outside { is_below_folder name.now ≡ false → result ≡ Err FilesRefusal.Failed }
+        ensures whole { result ≡ Ok Found.Present → AreOfSomeFile H.File.remaining self.new.buffer }
+        ensures small { length self.new.buffer ≤ max_file }
     {
-        self.buffer.clear();
         if !is_below_folder(name.bytes()) {
-            self.faults = self.faults.saturating_add(1);
-            return Err(FilesRefusal::Failed);
+            return self.hand_out(Err(FilesRefusal::Failed));
         }
-        let file = match open_file(self.rt, name.as_str()) {
-            Ok(file) => file,
-            Err(error) => {
-                if error.kind() == ErrorKind::NotFound {
-                    self.absences = self.absences.saturating_add(1);
-                    return Ok(Found::Absent);
-                }
-                self.faults = self.faults.saturating_add(1);
-                return Err(FilesRefusal::Failed);
-            }
-        };
-        match read_whole(file, *self.buffer.allocator()) {
-            Ok(bytes) => {
-                self.buffer = bytes;
-                Ok(Found::Present)
-            }
-            Err(FilesRefusal::Failed) => {
-                self.faults = self.faults.saturating_add(1);
-                Err(FilesRefusal::Failed)
-            }
-            Err(FilesRefusal::NoMemory) => Err(FilesRefusal::NoMemory),
-        }
+        let opened = open_file(self.rt, name.as_str());
+        let read = read_opened(opened, *self.buffer.allocator());
+        self.hand_out(read)
     }
 
     fn bytes(&self) -> &[u8]
@@ -113,6 +122,7 @@ impl<'a, H: fs::Files> Files for FolderFiles<'a, H> {
         ensures later { self.old.absences ≤ self.new.absences }
         ensures absences { self.new.absences ≡ self.old.absences }
         ensures outside { is_below_folder name.now ≡ false → result ≡ Err FilesRefusal.Failed }
+        ensures whole { OnOk result (AreInSomeFile H.File.contents bytes.now) }
     {
         if !is_below_folder(name.bytes()) {
             self.faults = self.faults.saturating_add(1);

@@ -5,9 +5,9 @@
 //! any other answer leaves this count (specs/Told.antt of og_base, specs/Folders.antt). `MemSource`,
 //! `MemSink` and `MemFiles` tell all of it; one call of each may be made to fail. `StdSource` and
 //! `StdSink` are over std's readers and writers and tell what these tell, which is nothing of a real
-//! standard input and output. `FolderFiles` are the files of the current folder, of which nothing is
-//! told; it refuses every name that leaves the folder (specs/BelowFolder.antt). What devices are seen
-//! as stands in specs/Devices.antt.
+//! standard input and output. `FolderFiles` are the files of the current folder, where what a name holds
+//! is not told; it refuses every name that leaves the folder (specs/BelowFolder.antt), and reads and
+//! writes files whole (specs/WholeFiles.antt). What devices are seen as stands in specs/Devices.antt.
 //!
 //! No tests here: the adapters of readers, writers and folders are tested in og_file_samples, and the cases
 //! are run over devices in memory that fail at each of their calls in turn.

@@ -1,32 +1,106 @@
 // A file of the system, read whole and replaced whole.
+ghost use Rattle.std.specs.Prelude.{◌≡◌, ◌≢◌, ◌<◌, ◌≤◌, ◌↔◌, ℕ, List, Some, None, Ok, Err, IfOk, IfSome, IsOkAnd, IsErrAnd, OnOk, OnErr, IsErr, length};
+ghost use Rattle.std.specs.Fs.{file_type, IsFile};
+ghost use Rattle.std.specs.Io.KnownBytes.{Appends};
+ghost use Rattle.std.specs.IoError.{error_kind};
+ghost use Rattle.og_base.specs.Told.{Rose};
+ghost use Rattle.og_io.specs.WholeFiles.{max_file, AreTold, ReadsOpened, AreInSomeFile};
+
 use crate::files::FilesRefusal;
+use crate::source::Source;
+use crate::standard::StdSource;
 use og_base::NoMemory;
 use std::alloc::Global;
-use std::fs::{File, Files, OpenFile, OpenOptions};
+use std::fs::{File, Files, Metadata, OpenFile, OpenOptions};
 use std::io::{ErrorKind, Read, Write};
 use std::{fs, io};
 
 /// The most bytes of a file that is read.
 pub const MAX_FILE: usize = 1_073_741_824;
 
+// The most bytes that one call asks for.
+const PART: usize = 65_536;
+
 // How many names a new file is given until one is free.
 const MAX_NAMES: u32 = 10_000;
 
-// Opens a file for reading. What is no file is an error: a folder, or a pipe, on which opening waits.
-pub(crate) fn open_file<H: Files>(rt: &H, name: &str) -> io::Result<H::File> {
-    if !fs::metadata(rt, name)?.is_file() {
-        return Err(io::Error::from(ErrorKind::InvalidInput));
-    }
-    File::open(rt, name)
+// What a name stands for.
+enum Kind {
+    // Nothing: the name is free.
+    Nothing,
+    // A file.
+    File,
+    // What is no file, or the system does not say.
+    Other,
 }
 
-// The bytes of the file. `Failed` where a read fails, or it has more than `MAX_FILE` bytes.
-pub(crate) fn read_whole<F: Read + Drop>(file: F, alloc: Global) -> Result<Vec<u8>, FilesRefusal> {
-    let mut file = file;
+// What the name stands for of which the system said this.
+fn kind_of(found: io::Result<Metadata>) -> Kind
+    ensures nothing { (result ≡ Kind.Nothing) ↔ IsErrAnd found (λ e. error_kind e ≡ ErrorKind.NotFound) }
+    ensures file { (result ≡ Kind.File) ↔ IsOkAnd found (λ m. IsFile (file_type m)) }
+{
+    match found {
+        Ok(found) => {
+            if found.is_file() {
+                Kind::File
+            } else {
+                Kind::Other
+            }
+        }
+        Err(error) if error.kind() == ErrorKind::NotFound => Kind::Nothing,
+        Err(_) => Kind::Other,
+    }
+}
+
+// Opens the file of the name for reading, if it has one. What is no file is refused: a folder, or a pipe,
+// on which opening waits.
+pub(crate) fn open_file<H: Files>(rt: &H, name: &str) -> Result<Option<H::File>, FilesRefusal> {
+    match kind_of(fs::metadata(rt, name)) {
+        Kind::Nothing => Ok(None),
+        Kind::File => opened(File::open(rt, name)),
+        Kind::Other => Err(FilesRefusal::Failed),
+    }
+}
+
+// The file that was opened, or none where there is no such file.
+fn opened<F: Drop>(opening: io::Result<F>) -> Result<Option<F>, FilesRefusal>
+    ensures file { IfOk opening (λ file. result ≡ Ok (Some file)) }
+    ensures nothing { (result ≡ Ok None) ↔ IsErrAnd opening (λ e. error_kind e ≡ ErrorKind.NotFound) }
+    ensures failed { (result ≡ Err FilesRefusal.Failed) ↔ IsErrAnd opening (λ e. error_kind e ≢ ErrorKind.NotFound) }
+{
+    match opening {
+        Ok(file) => Ok(Some(file)),
+        Err(error) if error.kind() == ErrorKind::NotFound => Ok(None),
+        Err(_) => Err(FilesRefusal::Failed),
+    }
+}
+
+// All bytes of the file that was opened, or none where there is no file.
+pub(crate) fn read_opened<F: Read + Drop>(
+    opened: Result<Option<F>, FilesRefusal>,
+    alloc: Global,
+) -> Result<Option<Vec<u8>>, FilesRefusal>
+    ensures whole { ReadsOpened F.remaining opened result }
+    ensures small { IfOk result (λ it. IfSome it (λ v. length v.items ≤ max_file)) }
+{
+    let Some(file) = opened? else {
+        return Ok(None);
+    };
+    let bytes = read_whole(alloc, &mut StdSource::new(file))?;
+    Ok(Some(bytes))
+}
+
+// The bytes of the source, read to its end. `Failed` where the source failed, or has more than `MAX_FILE`.
+fn read_whole<S: Source>(alloc: Global, src: &mut S) -> Result<Vec<u8>, FilesRefusal>
+    ensures whole { IfOk result (λ v. AreTold (S.left src.old) v.items) }
+    ensures small { IfOk result (λ v. length v.items ≤ max_file) }
+    ensures failed { result ≡ Err FilesRefusal.Failed → ¬ Rose (S.faults src.old) (S.faults src.new)
+        → IfSome (S.left src.old) (λ all. max_file < length all) }
+{
     let mut bytes = Vec::new(alloc);
-    let mut part = [0u8; 65_536];
-    for _ in 0..u64::MAX {
-        let Ok(count) = file.read(&mut part) else {
+    let mut part = [0u8; PART];
+    'parts: for _ in 0..MAX_FILE + 1 {
+        let Ok(count) = src.next(&mut part) else {
             return Err(FilesRefusal::Failed);
         };
         if count == 0 {
@@ -39,7 +113,8 @@ pub(crate) fn read_whole<F: Read + Drop>(file: F, alloc: Global) -> Result<Vec<u
             return Err(FilesRefusal::NoMemory);
         };
     }
-    Err(FilesRefusal::Failed)
+    // Each turn brought a byte, and no more than the limit came.
+    unreachable!()
 }
 
 // Makes the file, or replaces it, by a new file beside it that takes its name. `Failed` where it may not
@@ -49,11 +124,13 @@ pub(crate) fn replace_file<H: Files>(
     alloc: Global,
     name: &str,
     bytes: &[u8],
-) -> Result<(), FilesRefusal> {
+) -> Result<(), FilesRefusal>
+    ensures written { OnOk result (AreInSomeFile H.File.contents bytes.now) }
+{
     if !may_write(rt, name) {
         return Err(FilesRefusal::Failed);
     }
-    for number in 0..MAX_NAMES {
+    'names: for number in 0..MAX_NAMES {
         let other = beside(alloc, name, number)?;
         match File::create_new(rt, other.as_str()) {
             Ok(file) => return put_in_place(rt, file, other.as_str(), name, bytes),
@@ -69,9 +146,10 @@ pub(crate) fn replace_file<H: Files>(
 
 // Whether the name is free, or has a file that may be written.
 fn may_write<H: Files>(rt: &H, name: &str) -> bool {
-    match fs::metadata(rt, name) {
-        Ok(found) => found.is_file() && OpenOptions::new().write(true).open(rt, name).is_ok(),
-        Err(error) => error.kind() == ErrorKind::NotFound,
+    match kind_of(fs::metadata(rt, name)) {
+        Kind::Nothing => true,
+        Kind::File => OpenOptions::new().write(true).open(rt, name).is_ok(),
+        Kind::Other => false,
     }
 }
 
@@ -90,17 +168,36 @@ fn put_in_place<H: Files>(
     other: &str,
     name: &str,
     bytes: &[u8],
-) -> Result<(), FilesRefusal> {
-    if filled(file, bytes).is_ok() && fs::rename(rt, other, name).is_ok() {
+) -> Result<(), FilesRefusal>
+    ensures written { OnOk result (AreInSomeFile H.File.contents bytes.now) }
+{
+    if placed(file, bytes, || fs::rename(rt, other, name)).is_ok() {
         return Ok(());
     }
     let _ = fs::remove_file(rt, other);
     Err(FilesRefusal::Failed)
 }
 
-// Writes the bytes through to the device, and closes the file.
-fn filled<F: Write + OpenFile + Drop>(file: F, bytes: &[u8]) -> io::Result<()> {
+// Fills the file and closes it, and only then lets it take its name.
+fn placed<F: Write + OpenFile + Drop, N: FnOnce() -> io::Result<()>>(
+    file: F,
+    bytes: &[u8],
+    take_name: N,
+) -> io::Result<()>
+    requires { N.IsAlwaysCallable take_name }
+    ensures written { OnOk result (AreInSomeFile F.contents bytes.now) }
+    ensures named { OnOk result (N.post take_name result) }
+{
     let mut file = file;
+    write_through(&mut file, bytes)?;
+    drop(file);
+    take_name()
+}
+
+// Writes the bytes through to the device.
+fn write_through<F: Write + OpenFile>(file: &mut F, bytes: &[u8]) -> io::Result<()>
+    ensures { OnOk result (Appends (F.contents file.old) (F.contents file.new) bytes.now) }
+{
     file.write_all(bytes)?;
     file.sync_all()
 }

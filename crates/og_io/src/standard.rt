@@ -1,5 +1,5 @@
 //! Readers and writers of std as a source and a sink. They tell what their reader or writer tells.
-ghost use Rattle.std.specs.Prelude.{◌≡◌, ◌≤◌, Err, OnOk, OnErr, IsOkUnless};
+ghost use Rattle.std.specs.Prelude.{◌≡◌, ◌≤◌, Ok, Err, IfOk, OnOk, OnErr, IsErr, IsOkUnless};
 ghost use Rattle.std.specs.Io.{ReadsAtMost};
 ghost use Rattle.std.specs.Io.KnownBytes.{Appends, ReadConsumes};
 ghost use Rattle.og_base.specs.Told.{Rose, HasCause, AppendsFront};
@@ -7,6 +7,7 @@ ghost use Rattle.og_io.specs.Counts.{faults_after};
 
 use crate::sink::{PutRefusal, Sink};
 use crate::source::{Failed, Source};
+use std::io;
 use std::io::{Read, Write};
 use std::marker::Model;
 
@@ -49,12 +50,23 @@ impl<R: Read> Source for StdSource<R> {
         ensures kept { OnOk result (self.new.faults ≡ self.old.faults) }
         ensures faults { self.new.faults ≡ faults_after result self.old.faults }
     {
-        match self.reader.read(buf) {
-            Ok(count) => Ok(count),
-            Err(_) => {
-                self.faults = self.faults.saturating_add(1);
-                Err(Failed)
-            }
+        let read = self.reader.read(buf);
+        counted(&mut self.faults, read)
+    }
+}
+
+// What the reader answered; where it failed, the fault is counted.
+fn counted(faults: &mut u64, read: io::Result<usize>) -> Result<usize, Failed>
+    ensures given { IfOk read (λ count. result ≡ Ok count) }
+    ensures failed { OnErr read (IsErr result) }
+    ensures cause { HasCause faults.old faults.new result }
+    ensures faults { faults.new ≡ faults_after result faults.old }
+{
+    match read {
+        Ok(count) => Ok(count),
+        Err(_) => {
+            *faults = faults.saturating_add(1);
+            Err(Failed)
         }
     }
 }
