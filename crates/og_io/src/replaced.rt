@@ -1,5 +1,5 @@
 // A file of the system, read whole and replaced whole.
-ghost use Rattle.std.specs.Prelude.{◌≡◌, ◌≢◌, ◌<◌, ◌≤◌, ◌↔◌, ℕ, List, Some, None, Ok, Err, IfOk, IfSome, IsOkAnd, IsErrAnd, OnOk, OnErr, IsErr, length};
+ghost use Rattle.std.specs.Prelude.{◌≡◌, ◌≢◌, ◌<◌, ◌≤◌, ◌↔◌, Some, None, Ok, Err, IfOk, IfSome, IsOkAnd, IsErrAnd, OnOk, length};
 ghost use Rattle.std.specs.Fs.{file_type, IsFile};
 ghost use Rattle.std.specs.Io.KnownBytes.{Appends};
 ghost use Rattle.std.specs.IoError.{error_kind};
