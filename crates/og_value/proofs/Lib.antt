@@ -1,4 +1,5 @@
 pub mod CellTexts
 pub mod RowLemmas
+pub mod SightLemmas
 pub mod SpellingLemmas
 pub mod WordLemmas

@@ -1,14 +1,16 @@
--- The order tells values and rows apart.
-use Rattle.std.proofs.Common.{◌≡◌, ℤ, [], ◌∷◌, Bool, true, false, Ordering, Less, Equal, Greater, refl, sym, ap, ap₂, ◌∙◌}
-use Rattle.std.specs.Ordering.{int_cmp, nat_cmp, ordering_then}
-use Rattle.std.specs.Cmp.Lexicographic.{slice_cmp, texts_ties, same_text}
+-- The order of values and of rows is total, and tells them apart.
+use Rattle.std.proofs.Common.{◌≡◌, ℤ, [], ◌∷◌, Bool, true, false, Ordering, Less, Equal, Greater, refl, sym, ap, ap₂, subst, ◌∙◌}
+use Rattle.std.specs.Cmp.{IsEquivalence, IsPartialOrder, IsTotalOrder, eq_by_cmp_equiv, partial_order_from_total}
+use Rattle.std.specs.Ordering.{as_partial_cmp, eq_by_cmp, int_cmp, nat_cmp, ordering_then}
+use Rattle.std.specs.Cmp.Lexicographic.{slice_cmp, lists_total, texts_ties, same_text}
 use Rattle.og_base.specs.declared.range.FixedPeriod.{FixedPeriod}
 use Rattle.og_base.specs.Set.{IsExact}
 use Rattle.og_base.proofs.SetLemmas.{days_exact}
 use Rattle.og_value.specs.contracts.value.FixedValueOrd.TheImpl as derived
+use Rattle.og_value.specs.contracts.value.FixedValueOrd.TheImpl.Laws as derived_laws
 use Rattle.og_value.specs.declared.value.FixedValue.{FixedValue}
 use Rattle.og_value.specs.declared.value.FixedValue.TheVariants.{Int, Text, Date, Period}
-use Rattle.og_value.specs.Order.{period_order, value_order}
+use Rattle.og_value.specs.Order.{period_order, value_order, row_order}
 
 -- where two steps tie, both do
 then_equal : (a b : Ordering) → ordering_then a b ≡ Equal → (a ≡ Equal) × (b ≡ Equal)
@@ -78,5 +80,21 @@ values_ordered (Period a) (Date b) = refl
 values_ordered (Period a) (Period b) = refl
 
 -- the order of rows tells rows apart
+pub rows_apart : IsExact row_order
+rows_apart = lists_exact value_order values_exact
+
+-- so does the order that rows have
 pub rows_exact : IsExact (slice_cmp derived.cmp-value.it)
 rows_exact = lists_exact derived.cmp-value.it (λ x y e. values_exact x y (sym (values_ordered x y) ∙ e))
+
+-- the order of rows is total
+pub rows_total : IsTotalOrder row_order
+rows_total = lists_total (subst IsTotalOrder (λ i x y. values_ordered x y i) derived_laws.total-law)
+
+-- rows that tie are equal, which is an equivalence
+pub rows_equal : IsEquivalence (eq_by_cmp row_order)
+rows_equal = eq_by_cmp_equiv rows_total
+
+-- the order of rows is a partial one too
+pub rows_partial : IsPartialOrder (eq_by_cmp row_order) (as_partial_cmp row_order)
+rows_partial = partial_order_from_total rows_total

@@ -7,8 +7,8 @@ use Rattle.std.proofs.lemmas.Cmp.{int_ranked}
 use Rattle.std.specs.Cmp.Lexicographic.{slice_cmp}
 use Rattle.std.specs.Ordering.{MatchOrdering, int_cmp, nat_cmp, ordering_then}
 use Rattle.og_value.specs.Exact.{values_ordered}
-use Rattle.og_value.specs.Heights.{AreBytes, lifted, spelt, kind_height, HasRange, IsValueHeight}
-use Rattle.og_value.specs.Order.{rank, value_order}
+use Rattle.og_value.specs.Heights.{AreBytes, lifted, spelt, kind_height, HasRange, IsListHeight, IsValueHeight}
+use Rattle.og_value.specs.Order.{rank, value_order, row_order}
 use Rattle.og_value.specs.contracts.value.FixedValueOrd.TheImpl as derived
 use Rattle.og_value.specs.declared.value.FixedValue.{FixedValue}
 use Rattle.og_value.specs.declared.value.FixedValue.TheVariants.{Int, Text, Date, Period}
@@ -108,8 +108,8 @@ kind_height-below (Date a) f = omega arith
 kind_height-below (Period p) f = omega arith
 
 -- a value with a lesser height than another comes first
-pub values_first : (v w : FixedValue) (m n : ℕ) → IsValueHeight v m → IsValueHeight w n → m < n → derived.cmp-value.it v w ≡ Less
-values_first v w m n f g lt = values_ordered v w ∙ by (nat_cmp (rank v) (rank w)) refl (ranks (rank v) (rank w))
+value_first : (v w : FixedValue) (m n : ℕ) → IsValueHeight v m → IsValueHeight w n → m < n → value_order v w ≡ Less
+value_first v w m n f g lt = by (nat_cmp (rank v) (rank w)) refl (ranks (rank v) (rank w))
   where
     by : (r : Ordering) → nat_cmp (rank v) (rank w) ≡ r → MatchOrdering r (rank v < rank w) (rank v ≡ rank w) (rank w < rank v) → value_order v w ≡ Less
     by Less e l = rank_first v w l
@@ -117,3 +117,14 @@ values_first v w m n f g lt = values_ordered v w ∙ by (nat_cmp (rank v) (rank 
         let same : rank v ≡ rank w = l in
         kind_first v w same f.0 g.0 (omega (arith, subst (λ r. m ≡ r * 2 ^ 112 + kind_height v) same f.1, g.1, lt))
     by Greater e l = let over : rank w < rank v = l in absurd (omega (arith, f.1, g.1, lt, over, kind_height-below w g.0))
+
+-- so it does in the order that values have
+pub values_first : (v w : FixedValue) (m n : ℕ) → IsValueHeight v m → IsValueHeight w n → m < n → derived.cmp-value.it v w ≡ Less
+values_first v w m n f g lt = values_ordered v w ∙ value_first v w m n f g lt
+
+-- a row with a lesser height than another comes first
+pub rows_first : (xs ys : List FixedValue) (m n : ℕ) → IsListHeight IsValueHeight xs m → IsListHeight IsValueHeight ys n → m < n → row_order xs ys ≡ Less
+rows_first [] [] m n f g lt = absurd (omega (arith, f, g, lt))
+rows_first [] (y ∷ ys) m n f g lt = refl
+rows_first (x ∷ xs) [] m n f g lt = absurd (omega (arith, g, lt))
+rows_first (x ∷ xs) (y ∷ ys) m n f g lt = ap (λ o. ordering_then o (row_order xs ys)) (value_first x y m n f g lt)

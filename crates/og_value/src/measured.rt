@@ -4,6 +4,7 @@ ghost use Rattle.std.specs.Prelude.{◌≡◌, ◌<◌, length, slice_get, Some}
 ghost use Rattle.std.specs.Cmp.Lexicographic.{pointwise, slice_cmp, slice_partial_cmp, lists_per, lists_equiv, lists_po, lists_total, lists_agrees, lists_ties};
 ghost use Rattle.og_value.specs.Heights.{IsListHeight};
 
+use crate::height::Height;
 use crate::listed::Listed;
 use std::cmp::Ordering;
 use std::marker::Model;
@@ -22,43 +23,6 @@ pub(crate) trait HasHeight: Ord {
 
     /// A part with a lesser height than another comes first.
     ghost first: { (x y : Self) (m n : ℕ) → is_height x m → is_height y n → m < n → Self.cmp x y ≡ Less };
-}
-
-// What the high word of a height counts.
-const WORD: u128 = 1 << 64;
-
-// A height, seen as the number. Two words begin at any word, where a number of 128 bits begins at every second one.
-#[derive(Debug, Drop)]
-struct Height {
-    high: u64,
-    low: u64,
-}
-
-impl Model for Height {
-    ghost use Rattle.std.specs.Prelude.{ℕ, ◌+◌, ◌*◌, ◌^◌};
-
-    ghost Value = { ℕ };
-
-    ghost view = { λ h. h.high * 2 ^ 64 + h.low };
-}
-
-impl Height {
-    // The height of that number.
-    fn of(number: u128) -> Height
-        ensures { result ≡ number }
-    {
-        Height {
-            high: (number / WORD) as u64,
-            low: (number % WORD) as u64,
-        }
-    }
-
-    // The number.
-    fn number(&self) -> u128
-        ensures { result ≡ self.now }
-    {
-        u128::from(self.high) * WORD + u128::from(self.low)
-    }
 }
 
 /// A list of parts with the height of the first one, seen as the list.

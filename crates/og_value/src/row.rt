@@ -90,6 +90,13 @@ impl Row {
     {
         self.values.part(i)
     }
+
+    /// The values.
+    pub(crate) fn as_slice(&self) -> &[Value]
+        ensures { result.now ≡ self.now }
+    {
+        self.values.as_slice()
+    }
 }
 
 impl FixedRow {
