@@ -1,6 +1,7 @@
 //! The names of a run and what they hold.
 ghost use Rattle.std.specs.Prelude.{◌≡◌, ◌++◌, ◌<◌, ◌≤◌, ℕ, ℤ, List, [], ◌∷◌, Some, IfOk, OnOk, OnErr, length, map, slice_index_or};
 ghost use Rattle.std.specs.List.{All, IsDistinct};
+ghost use Rattle.std.specs.List.Sorted.{IsPermutation};
 ghost use Rattle.std.specs.Str.{bytes_eq};
 ghost use Rattle.og_base.specs.Calendar.{IsRefDay};
 ghost use Rattle.og_rel.specs.Relations.{instead, passing, relation_at};
@@ -201,8 +202,8 @@ impl Db {
         self.names[at].rel.replace(test, more)
     }
 
-    /// The same, and in another relation with its own test and rows: in both or in neither. Refused only for
-    /// want of memory, and then nothing has changed.
+    /// The same, and in another relation with its own test and rows, whose others may then come in another
+    /// order: in both or in neither. Refused only for want of memory, and then nothing has changed.
     pub fn replace_with<T: RowTest<Row>, U: RowTest<Row>>(
         &mut self,
         name: &Name,
@@ -214,7 +215,7 @@ impl Db {
     ) -> Result<(), NoMemory>
         requires table { (columns : List Column) × IsTableOf columns self.old name.now × HaveKinds columns more }
         ensures replaced { OnOk result (self.new ≡ changed_at name.now (instead (T.passes test.now) more) self.old) }
-        ensures other { OnOk result (other.new ≡ instead (U.passes other_test.now) other_more other.old) }
+        ensures other { OnOk result (IsPermutation other.new (instead (U.passes other_test.now) other_more other.old)) }
         ensures refused { OnErr result ((self.new ≡ self.old) × (other.new ≡ other.old)) }
     {
         let Some(at) = self.names.get_index_of(name) else {

@@ -1,6 +1,7 @@
 pub mod AlgebraLemmas
 pub mod BlockLemmas
 pub mod PairLemmas
+pub mod PermutationLemmas
 pub mod PresentLemmas
 pub mod RisingLemmas
 mod ShareLemmas

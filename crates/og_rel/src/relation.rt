@@ -1,13 +1,16 @@
 //! Relations.
 ghost use Rattle.std.specs.Prelude.{◌≡◌, ◌++◌, ◌<◌, ◌≤◌, List, [], ◌∷◌, IfOk, OnOk, OnErr, length, slice_index_or, take};
 ghost use Rattle.std.specs.List.{All};
+ghost use Rattle.std.specs.List.Sorted.{IsPermutation};
 ghost use Rattle.og_base.specs.Ranges.{Range};
 ghost use Rattle.og_par.specs.Limits.{max_workers};
 ghost use Rattle.og_rel.specs.Relations.{HasDays, instead, others, passing, relation_at, stored};
 
 use crate::blocks::LEAST;
 use crate::by_workers::rows_by_workers;
-use crate::pair::{Pair, add_passing, count_other_pairs, present_rows, replace_pairs};
+use crate::pair::{
+    Pair, add_passing, count_other_pairs, exchange_pairs, present_rows, replace_pairs,
+};
 use crate::row_test::RowTest;
 use og_base::{Instant, NoMemory, OngoingRow, RefDay, RtSet, rising};
 use og_par::Gate;
@@ -199,7 +202,8 @@ impl<R: OngoingRow> Rel<R> {
 }
 
 /// Puts rows in the place of those that pass a test in each of two relations, as `replace` does in one: in
-/// both or in neither. Refused only for want of memory, and then nothing has changed.
+/// both or in neither. The others of the second may then come in another order, so that few of them are
+/// moved. Refused only for want of memory, and then nothing has changed.
 pub fn replace_both<R: Drop, S: Drop, T: RowTest<R>, U: RowTest<S>>(
     first: &mut Rel<R>,
     first_test: &T,
@@ -209,12 +213,12 @@ pub fn replace_both<R: Drop, S: Drop, T: RowTest<R>, U: RowTest<S>>(
     second_more: Rel<S>,
 ) -> Result<(), NoMemory>
     ensures first_replaced { OnOk result (first.new ≡ instead (T.passes first_test.now) first_more first.old) }
-    ensures second_replaced { OnOk result (second.new ≡ instead (U.passes second_test.now) second_more second.old) }
+    ensures second_replaced { OnOk result (IsPermutation second.new (instead (U.passes second_test.now) second_more second.old)) }
     ensures refused { OnErr result ((first.new ≡ first.old) × (second.new ≡ second.old)) }
 {
     first.pairs.reserve(first_more.pairs.len())?;
     second.pairs.reserve(second_more.pairs.len())?;
     replace_pairs(&mut first.pairs, first_test, first_more.pairs);
-    replace_pairs(&mut second.pairs, second_test, second_more.pairs);
+    exchange_pairs(&mut second.pairs, second_test, second_more.pairs);
     Ok(())
 }

@@ -1,6 +1,7 @@
-use Rattle.std.proofs.Common.{◌∙◌, ap₂, ap, map, Result, Ok, Err, OnErr}
+use Rattle.std.proofs.Common.{◌∙◌, ap₂, ap, map, subst, Result, Ok, Err, OnErr}
+use Rattle.std.specs.List.Sorted.{IsPermutation}
 use Rattle.og_rel.specs.Relations.{instead}
-use Rattle.og_rel.proofs.PairLemmas.{replaced-days, replaced-pairs}
+use Rattle.og_rel.proofs.PairLemmas.{exchanged-days, exchanged-pairs, replaced-days, replaced-pairs}
 use Rattle.og_rel.proofs.relation.replace_both.Goals as goal
 
 -- what holds in any case holds after an error
@@ -22,8 +23,8 @@ invariant_of-first-2 g c =
 
 pub invariant_of-second-2 : goal.invariant_of-second-2
 invariant_of-second-2 g c =
-    replaced-days (g.U.RowTest.passes c.args.second_test.now) c.second.inside.pairs.items c.second_more.inside.pairs.items c.reserve-2.new.self.items c.replace_pairs-2.new.pairs.items
-    c.in_ok-reserve-2.ensures.items c.replace_pairs-2.ensures c.second.invariant c.second_more.invariant
+    exchanged-days (g.U.RowTest.passes c.args.second_test.now) c.second.inside.pairs.items c.second_more.inside.pairs.items c.reserve-2.new.self.items c.exchange_pairs.new.pairs.items
+    c.in_ok-reserve-2.ensures.items c.exchange_pairs.ensures c.second.invariant c.second_more.invariant
 
 pub returns-clause-first_replaced : goal.returns-clause-first_replaced
 returns-clause-first_replaced g c =
@@ -34,5 +35,6 @@ returns-clause-first_replaced g c =
 pub returns-clause-second_replaced : goal.returns-clause-second_replaced
 returns-clause-second_replaced g c =
     let passes = g.U.RowTest.passes c.args.second_test.now in
-    replaced-pairs passes c.second.inside.pairs.items c.second_more.inside.pairs.items c.reserve-2.new.self.items c.replace_pairs-2.new.pairs.items c.in_ok-reserve-2.ensures.items c.replace_pairs-2.ensures
-    ∙ ap₂ (instead passes) c.second_more.view_is c.second.view_is
+    let rows = map (λ p. (p.row, p.days)) c.exchange_pairs.new.pairs.items in
+    subst (IsPermutation rows) (ap₂ (instead passes) c.second_more.view_is c.second.view_is)
+    (exchanged-pairs passes c.second.inside.pairs.items c.second_more.inside.pairs.items c.reserve-2.new.self.items c.exchange_pairs.new.pairs.items c.in_ok-reserve-2.ensures.items c.exchange_pairs.ensures)

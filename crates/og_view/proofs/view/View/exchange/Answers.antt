@@ -1,11 +1,15 @@
 use Rattle.std.proofs.Common.{◌≡◌, ◌≤◌, ℤ, length, ap, subst, sym, ◌∙◌, arith}
 use Rattle.std.specs.List.{All}
 use Rattle.std.proofs.lemmas.List.{length-append}
+use Rattle.std.proofs.lemmas.List.Sorted.{length_permutation}
 use Rattle.og_base.specs.Calendar.{IsRefDay}
+use Rattle.og_value.specs.Values.{row_at}
 use Rattle.og_rel.specs.Relations.{instead, others}
+use Rattle.og_rel.proofs.PermutationLemmas.{relation_at-permutation}
 use Rattle.og_query.specs.Fits.{IsFitQuery, tables_of}
 use Rattle.og_query.specs.Queries.{ordinary_query}
 use Rattle.og_query.specs.Sizes.{query_size}
+use Rattle.og_query.proofs.QueryLemmas.{rows_ordered}
 use Rattle.og_exec.specs.Tables.{rows_at, rows_on, sizes_of}
 use Rattle.og_db.specs.Fits.{IsFitFixed}
 use Rattle.og_db.specs.Held.{known_of, rows_of}
@@ -31,7 +35,7 @@ invariant_of-self-2 g c =
     let fits : IsFitQuery schemas query = fits_changed c.self.inside.bases name (instead passes c.args.changed) bases c.new-over.ensures query was.fits in
     let now = c.replace_with.new.other in
     let law : (d : ℤ) → IsRefDay d → rows_on now d ≡ ordinary_query d (rows_at (rows_of bases) d) query =
-    λ d day. ap (λ rows. rows_on rows d) c.in_ok-replace_with.ensures.other
+    λ d day. relation_at-permutation rows_ordered row_at now (instead lets more result) d c.in_ok-replace_with.ensures.other
     ∙ sym (subst (λ v. ordinary_query d (rows_at (rows_of (instead_at name passes c.args.changed v.bases)) d) v.query ≡ rows_on (instead lets more v.result) d) (sym c.self.view_is) (c.requires.law d day))
     ∙ sym (ap (λ db. ordinary_query d (rows_at (rows_of db) d) query) c.new-over.ensures) in
     let most : length (instead lets more result) ≤ query_size (sizes_of (rows_of bases)) query =
@@ -41,7 +45,7 @@ invariant_of-self-2 g c =
         live = was.live;
         fits = fits;
         law = law;
-        size = subst (λ rows. length rows ≤ query_size (sizes_of (rows_of bases)) query) (sym c.in_ok-replace_with.ensures.other) most;
+        size = subst (λ n. n ≤ query_size (sizes_of (rows_of bases)) query) (length_permutation now (instead lets more result) c.in_ok-replace_with.ensures.other) most;
         kinds = c.fitting_rows.ensures.on_all_days query.first.schema now c.some_days.ensures
             (λ d day. subst (All (IsFitFixed query.first.schema)) (sym (law d day))
             (answer_fits d (rows_at (rows_of bases) d) schemas query fits (tables_fit schemas (rows_of bases) (tables_held (known_of bases) (rows_of bases) c.rows_fit.ensures.held) c.fitting_rows.ensures.on_a_day d query fits)));

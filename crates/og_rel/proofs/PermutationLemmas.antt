@@ -1,0 +1,88 @@
+-- Lists in another order: what is made of one element by element is the same in another order, and a relation has the same rows at a day.
+use Rattle.std.proofs.Common.{◌≡◌, ◌++◌, ◌<◌, ℕ, ℤ, zero, suc, Bool, true, false, cond, List, [], ◌∷◌, length, get_or, set, swap, filter, Ordering, refl, sym, ap, subst, ⊎_elim, ◌+◌, ◌∙◌, arith}
+use Rattle.std.specs.List.Sorted.{IsPermutation}
+use Rattle.std.proofs.lemmas.Bool.{cases_eq}
+use Rattle.std.proofs.lemmas.List.{get_or_default}
+use Rattle.std.proofs.lemmas.List.Elements.{filter-append}
+use Rattle.std.proofs.lemmas.List.Sorted.{IsPermutation-append_comm, IsPermutation-append_left, IsPermutation-append_right, IsPermutation-keeps, IsPermutation-refl, IsPermutation-sym, IsPermutation-trans}
+use Rattle.og_base.specs.Ranges.{Range}
+use Rattle.og_base.specs.Set.{IsExactOrder}
+use Rattle.og_rel.specs.Relations.{present, relation_at}
+use Rattle.og_rel.proofs.PresentLemmas.{present-append}
+use Rattle.og_rel.proofs.WorkerLemmas.{set_of-permutation}
+
+-- where f of lists one after the other is f of each
+module _ {X Y : Type 0} (f : List X → List Y) (along : (xs ys : List X) → f (xs ++ ys) ≡ f xs ++ f ys) where
+  -- f of two elements and more
+  of_two : (x y : X) (xs : List X) → f (x ∷ y ∷ xs) ≡ (f (x ∷ []) ++ f (y ∷ [])) ++ f xs
+  of_two x y xs = along (x ∷ y ∷ []) xs ∙ ap (λ l. l ++ f xs) (along (x ∷ []) (y ∷ []))
+
+  -- behind one element
+  skip : (x : X) (xs ys : List X) → IsPermutation (f xs) (f ys) → IsPermutation (f (x ∷ xs)) (f (x ∷ ys))
+  skip x xs ys h =
+      subst (λ l. IsPermutation l (f (x ∷ ys))) (sym (along (x ∷ []) xs))
+      (subst (IsPermutation (f (x ∷ []) ++ f xs)) (sym (along (x ∷ []) ys)) (IsPermutation-append_right (f (x ∷ [])) (f xs) (f ys) h))
+
+  -- with the first two turned
+  turn : (x y : X) (xs : List X) → IsPermutation (f (x ∷ y ∷ xs)) (f (y ∷ x ∷ xs))
+  turn x y xs =
+      subst (λ l. IsPermutation l (f (y ∷ x ∷ xs))) (sym (of_two x y xs))
+      (subst (IsPermutation ((f (x ∷ []) ++ f (y ∷ [])) ++ f xs)) (sym (of_two y x xs))
+      (IsPermutation-append_left (f xs) (f (x ∷ []) ++ f (y ∷ [])) (f (y ∷ []) ++ f (x ∷ [])) (IsPermutation-append_comm (f (x ∷ [])) (f (y ∷ [])))))
+
+  chain : (xs ys zs : List X) → IsPermutation (f xs) (f ys) → IsPermutation (f ys) (f zs) → IsPermutation (f xs) (f zs)
+  chain xs ys zs = IsPermutation-trans (f xs) (f ys) (f zs)
+
+  -- with a later one as the first
+  to_head : (l : List X) (j : ℕ) (x d : X) → j < length l → IsPermutation (f (x ∷ l)) (f (get_or l j d ∷ set l j x))
+  to_head [] j x d h = absurd (omega arith)
+  to_head (y ∷ l) zero x d h = turn x y l
+  to_head (y ∷ l) (suc j) x d h = chain _ _ _ (turn x y l) (chain _ _ _ (skip y _ _ (to_head l j x d (omega arith))) (turn y (get_or l j d) (set l j x)))
+
+  -- with two exchanged
+  exchanged : (l : List X) (i j : ℕ) (d : X) → i < length l → j < length l → IsPermutation (f l) (f (set (set l i (get_or l j d)) j (get_or l i d)))
+  exchanged [] i j d p q = absurd (omega arith)
+  exchanged (x ∷ l) zero zero d p q = IsPermutation-refl (f (x ∷ l))
+  exchanged (x ∷ l) zero (suc j) d p q = to_head l j x d (omega arith)
+  exchanged (x ∷ l) (suc i) zero d p q = to_head l i x d (omega arith)
+  exchanged (x ∷ l) (suc i) (suc j) d p q = skip x _ _ (exchanged l i j d (omega arith) (omega arith))
+
+  swapped : (l : List X) (i j : ℕ) → i < length l → j < length l → IsPermutation (f l) (f (swap l i j))
+  swapped [] i j p q = IsPermutation-refl (f [])
+  swapped (x ∷ l) i j p q = exchanged (x ∷ l) i j x p q
+
+  -- f of a list in another order
+  pub IsPermutation-along : (xs ys : List X) → IsPermutation xs ys → IsPermutation (f xs) (f ys)
+  IsPermutation-along xs = IsPermutation-keeps xs (λ l. IsPermutation (f xs) (f l)) (IsPermutation-refl (f xs)) (λ l i j p q h. chain xs l _ h (swapped l i j p q))
+
+module _ {X : Type 0} (keeps : X → Bool) where
+  -- the elements that are kept, of a list in another order
+  pub IsPermutation-filter : (xs ys : List X) → IsPermutation xs ys → IsPermutation (filter keeps xs) (filter keeps ys)
+  IsPermutation-filter = IsPermutation-along (filter keeps) (filter-append keeps)
+
+  -- where one is taken out that is not kept, and the others change places
+  pub taken_out : (x : X) (old new start : List X) → IsPermutation old (x ∷ new) → keeps x ≡ false → IsPermutation (filter keeps old) start → IsPermutation (filter keeps new) start
+  taken_out x old new start moved out before =
+      IsPermutation-trans (filter keeps new) (filter keeps old) start
+      (subst (λ b. IsPermutation (cond b (x ∷ filter keeps new) (filter keeps new)) (filter keeps old)) out (IsPermutation-sym (filter keeps old) (filter keeps (x ∷ new)) (IsPermutation-filter old (x ∷ new) moved)))
+      before
+
+  -- where the first ones are kept, and the next
+  pub one_more_kept : (xs : List X) (i : ℕ) (x : X) → i < length xs → x ≡ get_or xs i x → keeps x ≡ true → ((k : ℕ) (d : X) → k < i → keeps (get_or xs k d) ≡ true)
+      → (k : ℕ) (d : X) → k < i + 1 → keeps (get_or xs k d) ≡ true
+  one_more_kept xs i x there is stays kept k d l =
+      ⊎_elim
+      (λ e. ap (λ n. keeps (get_or xs n d)) e ∙ ap keeps (get_or_default xs i d x there ∙ sym is) ∙ stays)
+      (λ n. kept k d (omega (arith, n, l)))
+      (cases_eq k i)
+
+  -- where all are kept
+  pub all_kept : (xs : List X) → ((k : ℕ) (d : X) → k < length xs → keeps (get_or xs k d) ≡ true) → filter keeps xs ≡ xs
+  all_kept [] h = refl
+  all_kept (x ∷ xs) h = rw (h 0 x (omega arith), all_kept xs (λ k d l. h (suc k) d (omega arith))) refl
+
+module _ {R F : Type 0} {cmp : F → F → Ordering} (o : IsExactOrder cmp) (at : R → ℤ → F) where
+  -- a relation in another order has the same rows at a day
+  pub relation_at-permutation : (a b : List (R × List Range)) (d : ℤ) → IsPermutation a b → relation_at cmp at a d ≡ relation_at cmp at b d
+  relation_at-permutation a b d moved =
+      set_of-permutation o (present at a d) (present at b d) (IsPermutation-along (λ rel. present at rel d) (λ x y. present-append at x y d) a b moved)
