@@ -57,6 +57,10 @@ module _ (row : List Value) where
   pub may_hold-Compare : (op : Cmp) (left right : Expr) → may_hold row (c.Compare op left right) ≡ unless_known (may_compare op) (known row left) (known row right)
   may_hold-Compare = fold-Compare (may_step row)
 
+  -- of a comparison of a column with a number
+  pub may_hold-number : (op : Cmp) (place : ℕ) (n : ℤ) → may_hold row (c.Compare op (e.Column place) (e.Lit (v.Int n))) ≡ unless_known (may_compare op) (slice_get row place) (Some (v.Int n))
+  may_hold-number op place n = may_hold-Compare op (e.Column place) (e.Lit (v.Int n)) ∙ ap₂ (unless_known (may_compare op)) (known-Column place) (known-Lit (v.Int n))
+
   -- of a predicate
   pub may_hold-Relate : (pred : Pred) (left right : Expr) → may_hold row (c.Relate pred left right) ≡ unless_known (may_relate pred) (known row left) (known row right)
   may_hold-Relate = fold-Relate (may_step row)

@@ -8,6 +8,7 @@ ghost use Rattle.og_query.specs.declared.condition.Cond as conds;
 ghost use Rattle.og_expr.specs.Bounds as meant;
 
 use crate::bounds::may_hold;
+use crate::column_test::{ColumnTest, told_by};
 use crate::columns::Columns;
 use og_query::Cond;
 use og_value::Row;
@@ -18,15 +19,18 @@ use std::marker::Model;
 #[derive(Drop)]
 pub struct RowBounds<'c> {
     cond: &'c Cond,
+    // What tells of most rows that it may not hold, where the condition has such a part.
+    first: Option<ColumnTest>,
     // The row without values, which stands beside each row.
     none: Row,
 }
 
 impl<'c> Model for RowBounds<'c> {
     ghost use Rattle.std.specs.Coded.{codes};
-    ghost use Rattle.std.specs.Prelude.{◌≡◌, []};
+    ghost use Rattle.std.specs.Prelude.{◌≡◌, [], IfSome};
     ghost use Rattle.og_query.specs.contracts.condition.Cond as c;
     ghost use Rattle.og_query.specs.declared.condition.Cond.{Cond as OneCond};
+    ghost use Rattle.og_expr.specs.ColumnTests.{Tells};
 
     ghost Value = { OneCond };
 
@@ -34,7 +38,7 @@ impl<'c> Model for RowBounds<'c> {
 
     ghost view = { λ b. b.cond.now };
 
-    ghost invariant = { λ b. b.none ≡ [] };
+    ghost invariant = { λ b. (b.none ≡ []) × IfSome b.first (λ test. Tells test b.cond.now) };
 }
 
 impl<'c> RowBounds<'c> {
@@ -44,6 +48,7 @@ impl<'c> RowBounds<'c> {
     {
         RowBounds {
             cond,
+            first: told_by(cond),
             none: Row::of(Vec::new(alloc)),
         }
     }
@@ -52,6 +57,11 @@ impl<'c> RowBounds<'c> {
     pub fn may_hold(&self, row: &Row) -> bool
         ensures exact { result ≡ meant.may_hold row.now self.now }
     {
+        if let Some(test) = &self.first {
+            if !test.may_pass(row) {
+                return false;
+            }
+        }
         let columns = Columns {
             left: row,
             right: &self.none,
