@@ -1,15 +1,18 @@
 -- A base of which rows are taken: what it had is what it has and what was taken.
-use Rattle.std.proofs.Common.{◌≡◌, ◌++◌, ◌||◌, ◌&&◌, ℕ, ℤ, Bool, true, false, not, List, [], ◌∷◌, Option, Some, None, length, filter, map, if◌then◌else◌, refl, sym, ap, ap₂, ◌∙◌, ◌≤◌, arith}
+use Rattle.std.proofs.Common.{◌≡◌, ◌++◌, ◌+◌, ◌||◌, ◌&&◌, ℕ, ℤ, Bool, true, false, not, List, [], ◌∷◌, Option, Some, None, length, filter, map, if◌then◌else◌, refl, sym, ap, ap₂, ◌∙◌, ◌≤◌, arith}
 use Rattle.std.specs.Cmp.Lexicographic.{same_text}
 use Rattle.std.specs.List.{list_any}
 use Rattle.std.specs.Option.{option_map}
 use Rattle.std.specs.Str.{bytes_eq}
-use Rattle.std.proofs.lemmas.List.{append-nil}
+use Rattle.std.proofs.lemmas.List.{append-nil, length-append}
 use Rattle.std.proofs.lemmas.List.Folds.{list_any-append}
+use Rattle.std.proofs.lemmas.List.Sorted.{IsPermutation-filter_both, length_permutation}
 use Rattle.og_base.specs.Calendar.{IsRefDay}
 use Rattle.og_base.specs.Set.{set_of}
 use Rattle.og_base.proofs.SetMembers.{list_any-filter, list_any-set_of}
 use Rattle.og_value.specs.Order.{row_order}
+use Rattle.og_value.specs.declared.value.Value.{Value}
+use Rattle.og_rel.specs.Relations.{others, passing}
 use Rattle.og_rel.proofs.AlgebraLemmas.{any_of_either}
 use Rattle.og_query.specs.Queries.{Fixed}
 use Rattle.og_query.proofs.QueryLemmas.{rows_ordered}
@@ -123,3 +126,14 @@ module _ (before left after : List (Held Relation)) (name : List ℕ) (holds : �
 pub no_rows : (rel : Relation) → length rel ≤ 0 → rel ≡ []
 no_rows [] h = refl
 no_rows (p ∷ rel) h = absurd (omega (arith, h))
+
+-- the rows that pass a test and the others are all rows
+pub length-parted : (passes : List Value → Bool) (rel : Relation) → length (passing passes rel) + length (others passes rel) ≡ length rel
+length-parted passes rel =
+    sym (length-append (passing passes rel) (others passes rel))
+    ∙ length_permutation rel (passing passes rel ++ others passes rel) (IsPermutation-filter_both (λ p. passes p.0) (λ p. not (passes p.0)) (λ p. refl) rel)
+
+-- no row passes the test that none passes
+pub none-passing : (rel : Relation) → 0 ≡ length (passing (λ _. false) rel)
+none-passing [] = refl
+none-passing (p ∷ rel) = none-passing rel

@@ -1,9 +1,9 @@
 -- The bases of a view: copies of tables.
-use Rattle.std.specs.Prelude.{◌≡◌, ℕ, Bool, List, Some}
+use Rattle.std.specs.Prelude.{◌≡◌, ℕ, Bool, List, Some, length}
 use Rattle.og_value.specs.declared.kind.What.{What}
 use Rattle.og_value.specs.declared.schema.Column.{Column}
 use Rattle.og_value.specs.declared.value.Value.{Value}
-use Rattle.og_rel.specs.Relations.{instead}
+use Rattle.og_rel.specs.Relations.{instead, passing}
 use Rattle.og_query.specs.Fits.{Known, Schemas, tables_of}
 use Rattle.og_exec.specs.Tables.{Relations, IsThere}
 use Rattle.og_db.specs.Database.{Relation, HaveKinds, IsTableOf}
@@ -28,6 +28,10 @@ AreMore old new = (name : List ℕ) (columns : List Column) → tables_of (known
 -- the base of that name is a table whose columns the rows of the relation fit
 abbrev pub IsPut : List (Held Relation) → List ℕ → Relation → Type 0
 IsPut bases name rel = (columns : List Column) × IsTableOf columns bases name × HaveKinds columns rel
+
+-- so many rows of the base of that name pass a test
+abbrev pub ArePassing : List (Held Relation) → List ℕ → (List Value → Bool) → ℕ → Type 0
+ArePassing bases name passes count = (rel : Relation) → rows_of bases name ≡ Some rel → count ≡ length (passing passes rel)
 
 -- the bases, where in that one rows stand in the place of those that pass a test
 abbrev pub instead_at : List ℕ → (List Value → Bool) → Relation → List (Held Relation) → List (Held Relation)

@@ -7,7 +7,7 @@ ghost use Rattle.og_exec.specs.Tables.{sizes_of};
 ghost use Rattle.og_db.specs.Database.{HaveKinds, IsTableOf, Relation};
 ghost use Rattle.og_db.specs.Held.{known_of, put_at, rows_of};
 ghost use Rattle.og_view.specs.Parts.{rel_of};
-ghost use Rattle.og_view.specs.Bases.{IsPut, instead_at};
+ghost use Rattle.og_view.specs.Bases.{ArePassing, IsPut, instead_at};
 ghost use Rattle.og_view.specs.Sieves.{sifted};
 
 use crate::part::PartRows;
@@ -25,6 +25,8 @@ pub(crate) struct Instead<'b, T: RowTest<Row>> {
     bases: &'b Db,
     name: &'b Name,
     test: &'b T,
+    // How many of its rows pass the test.
+    passing: usize,
     more: &'b Rel<Row>,
 }
 
@@ -32,30 +34,34 @@ impl<'b, T: RowTest<Row>> Model for Instead<'b, T> {
     ghost use Rattle.std.specs.Prelude.{List};
     ghost use Rattle.og_db.specs.Database.{Relation};
     ghost use Rattle.og_db.specs.Held.{Held};
-    ghost use Rattle.og_view.specs.Bases.{IsPut, instead_at};
+    ghost use Rattle.og_view.specs.Bases.{ArePassing, IsPut, instead_at};
 
     ghost Value = { List (Held Relation) };
 
     ghost view = { λ i. instead_at i.name.now (T.passes i.test.now) i.more.now i.bases.now };
 
-    ghost invariant = { λ i. IsPut i.bases.now i.name.now i.more.now };
+    ghost invariant = { λ i. IsPut i.bases.now i.name.now i.more.now × ArePassing i.bases.now i.name.now (T.passes i.test.now) i.passing };
 }
 
 impl<'b, T: RowTest<Row>> Instead<'b, T> {
-    // The bases, where in the base of that name the rows stand in the place of those that pass the test.
+    // The bases, where in the base of that name the rows stand in the place of those that pass the test, of
+    // which there are so many.
     pub(crate) fn new(
         bases: &'b Db,
         name: &'b Name,
         test: &'b T,
+        passing: usize,
         more: &'b Rel<Row>,
     ) -> Instead<'b, T>
-        requires { IsPut bases.now name.now more.now }
+        requires put { IsPut bases.now name.now more.now }
+        requires counted { ArePassing bases.now name.now (T.passes test.now) passing }
         ensures { result ≡ instead_at name.now (T.passes test.now) more.now bases.now }
     {
         Instead {
             bases,
             name,
             test,
+            passing,
             more,
         }
     }
@@ -68,7 +74,8 @@ impl<'b, T: RowTest<Row>> Instead<'b, T> {
             return 0;
         };
         if *self.name == *name {
-            own.count_others(self.test).saturating_add(self.more.len())
+            let others = own.len().saturating_sub(self.passing);
+            others.saturating_add(self.more.len())
         } else {
             own.len()
         }

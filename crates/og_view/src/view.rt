@@ -18,7 +18,7 @@ ghost use Rattle.og_db.specs.Held.{known_of, rows_of};
 ghost use Rattle.og_db.specs.Live.{uses};
 ghost use Rattle.og_db.specs.Runs.{AreWithin, sizes_at};
 ghost use Rattle.og_db.specs.Statements.{names_after, name_sizes_after};
-ghost use Rattle.og_view.specs.Bases.{AreHeld, IsPut, instead_at};
+ghost use Rattle.og_view.specs.Bases.{AreHeld, ArePassing, IsPut, instead_at};
 ghost use Rattle.og_view.specs.Placed.{AreGrown, cores_of, more_rows};
 ghost use Rattle.og_view.specs.Sieves.{passes, row_passes};
 ghost use Rattle.og_view.specs.Views.{IsLiveQuery};
@@ -168,7 +168,7 @@ impl View {
         self.kept();
         let new = on_all_days(alloc, copy_rows(alloc, rows)?)?;
         let more = self.more_by(rt, alloc, name, &NoRow, &new, &new, workers, gate)?;
-        self.extend(rt, alloc, name, &NoRow, new, more, workers, gate)
+        self.extend(rt, alloc, name, &NoRow, 0, new, more, workers, gate)
     }
 
     /// Takes the rows of which the condition holds from the base of that name, each on the days on which
@@ -199,7 +199,17 @@ impl View {
         let rows = self.bases.touched(name, &test)?;
         let left = left_of(alloc, &rows, cond)?;
         let gone = gone_of(alloc, &rows, cond)?;
-        self.shrink(rt, alloc, name, &test, left, gone, workers, gate)
+        self.shrink(
+            rt,
+            alloc,
+            name,
+            &test,
+            rows.len(),
+            left,
+            gone,
+            workers,
+            gate,
+        )
     }
 
     /// Puts the assigned rows in the place of the rows of which the condition holds in the base of that
@@ -238,7 +248,17 @@ impl View {
             gone: &gone,
             new: &new,
         };
-        self.replace(rt, alloc, name, &test, changed, &parts, workers, gate)
+        self.replace(
+            rt,
+            alloc,
+            name,
+            &test,
+            rows.len(),
+            changed,
+            &parts,
+            workers,
+            gate,
+        )
     }
 
     // Puts what is left of rows of a base in the place of those that pass a test. Where the cores had rows by
@@ -250,6 +270,7 @@ impl View {
         alloc: Global,
         name: &Name,
         test: &T,
+        passing: usize,
         left: Rel<Row>,
         gone: Rel<Row>,
         workers: usize,
@@ -257,6 +278,7 @@ impl View {
     ) -> Result<(), NoMemory>
         requires least { 1 ≤ workers }
         requires most { workers ≤ max_workers }
+        requires counted { ArePassing self.old.bases name.now (T.passes test.now) passing }
         requires gone { IsPut self.old.bases name.now gone }
         requires left { IsPut self.old.bases name.now left }
         requires shrinks { AreGrown (rows_of self.old.bases) (rows_of (instead_at name.now (T.passes test.now) left self.old.bases)) name.now gone }
@@ -268,12 +290,14 @@ impl View {
         let lost = self.had_by(rt, alloc, name, &gone, workers, gate)?;
         if lost.len() == 0 {
             let none = Rel::new(alloc);
-            return self.extend(rt, alloc, name, test, left, none, workers, gate);
+            return self.extend(rt, alloc, name, test, passing, left, none, workers, gate);
         }
         let keys = keys_of(alloc, &lost, self.asked.query().first.schema.len())?;
         let sieve = Sieve::of(alloc, 0, keys.as_slice())?;
-        let again = self.again(rt, alloc, name, test, &left, &sieve, workers, gate)?;
-        self.exchange(rt, alloc, name, test, left, &sieve, again, workers, gate)
+        let again = self.again(rt, alloc, name, test, passing, &left, &sieve, workers, gate)?;
+        self.exchange(
+            rt, alloc, name, test, passing, left, &sieve, again, workers, gate,
+        )
     }
 
     // The same with rows in the place of those that pass which are what is left and what new ones are made of
@@ -284,6 +308,7 @@ impl View {
         alloc: Global,
         name: &Name,
         test: &T,
+        passing: usize,
         changed: Rel<Row>,
         parts: &Changed<'_>,
         workers: usize,
@@ -291,6 +316,7 @@ impl View {
     ) -> Result<(), NoMemory>
         requires least { 1 ≤ workers }
         requires most { workers ≤ max_workers }
+        requires counted { ArePassing self.old.bases name.now (T.passes test.now) passing }
         requires changed { IsPut self.old.bases name.now changed }
         requires left { IsPut self.old.bases name.now parts.now.left.now }
         requires gone { IsPut self.old.bases name.now parts.now.gone.now }
@@ -306,13 +332,17 @@ impl View {
         let lost = self.had_by(rt, alloc, name, parts.gone, workers, gate)?;
         let more = self.more_by(rt, alloc, name, test, &changed, parts.new, workers, gate)?;
         if lost.len() == 0 {
-            return self.extend(rt, alloc, name, test, changed, more, workers, gate);
+            return self.extend(rt, alloc, name, test, passing, changed, more, workers, gate);
         }
         let keys = keys_of(alloc, &lost, self.asked.query().first.schema.len())?;
         let sieve = Sieve::of(alloc, 0, keys.as_slice())?;
-        let mut again = self.again(rt, alloc, name, test, parts.left, &sieve, workers, gate)?;
+        let mut again = self.again(
+            rt, alloc, name, test, passing, parts.left, &sieve, workers, gate,
+        )?;
         again.append(more)?;
-        self.exchange(rt, alloc, name, test, changed, &sieve, again, workers, gate)
+        self.exchange(
+            rt, alloc, name, test, passing, changed, &sieve, again, workers, gate,
+        )
     }
 
     // The rows that the cores have by new rows of a base, over tables in which it has them.
@@ -393,6 +423,7 @@ impl View {
         alloc: Global,
         name: &Name,
         test: &T,
+        passing: usize,
         left: &Rel<Row>,
         sieve: &Sieve<'_>,
         workers: usize,
@@ -400,11 +431,12 @@ impl View {
     ) -> Result<Rel<Row>, NoMemory>
         requires least { 1 ≤ workers }
         requires most { workers ≤ max_workers }
+        requires counted { ArePassing self.now.bases name.now (T.passes test.now) passing }
         requires left { IsPut self.now.bases name.now left.now }
         ensures { IfOk result (λ again. (d : ℤ) → IsRefDay d →
             rows_on again d ≡ filter (passes sieve.now) (ordinary_query d (rows_at (rows_of (instead_at name.now (T.passes test.now) left.now self.now.bases)) d) self.now.query)) }
     {
-        let over = Instead::new(&self.bases, name, test, left);
+        let over = Instead::new(&self.bases, name, test, passing, left);
         over.rows_fit();
         again_of(
             rt,
@@ -426,6 +458,7 @@ impl View {
         alloc: Global,
         name: &Name,
         test: &T,
+        passing: usize,
         changed: Rel<Row>,
         sieve: &Sieve<'_>,
         more: Rel<Row>,
@@ -434,6 +467,7 @@ impl View {
     ) -> Result<(), NoMemory>
         requires least { 1 ≤ workers }
         requires most { workers ≤ max_workers }
+        requires counted { ArePassing self.old.bases name.now (T.passes test.now) passing }
         requires changed { IsPut self.old.bases name.now changed }
         requires law { (d : ℤ) → IsRefDay d →
             ordinary_query d (rows_at (rows_of (instead_at name.now (T.passes test.now) changed self.old.bases)) d) self.old.query ≡ rows_on (instead (row_passes sieve.now) more self.old.result) d }
@@ -441,7 +475,7 @@ impl View {
         ensures bases { OnOk result (self.new.bases ≡ instead_at name.now (T.passes test.now) changed self.old.bases) }
         ensures refused { OnErr result (self.new ≡ self.old) }
     {
-        let over = Instead::new(&self.bases, name, test, &changed);
+        let over = Instead::new(&self.bases, name, test, passing, &changed);
         let most = size_of(self.asked.query(), &over);
         if !has_room(&self.result, sieve, more.len(), most) {
             return self.renew(rt, alloc, name, test, changed, workers, gate);
@@ -462,6 +496,7 @@ impl View {
         alloc: Global,
         name: &Name,
         test: &T,
+        passing: usize,
         changed: Rel<Row>,
         more: Rel<Row>,
         workers: usize,
@@ -469,6 +504,7 @@ impl View {
     ) -> Result<(), NoMemory>
         requires least { 1 ≤ workers }
         requires most { workers ≤ max_workers }
+        requires counted { ArePassing self.old.bases name.now (T.passes test.now) passing }
         requires changed { IsPut self.old.bases name.now changed }
         requires law { (d : ℤ) → IsRefDay d →
             ordinary_query d (rows_at (rows_of (instead_at name.now (T.passes test.now) changed self.old.bases)) d) self.old.query ≡ set_of row_order (rows_on self.old.result d ++ rows_on more d) }
@@ -476,7 +512,7 @@ impl View {
         ensures bases { OnOk result (self.new.bases ≡ instead_at name.now (T.passes test.now) changed self.old.bases) }
         ensures refused { OnErr result (self.new ≡ self.old) }
     {
-        let over = Instead::new(&self.bases, name, test, &changed);
+        let over = Instead::new(&self.bases, name, test, passing, &changed);
         let most = size_of(self.asked.query(), &over);
         let len = self.result.len();
         if len > most || more.len() > most - len {

@@ -10,7 +10,7 @@ use Rattle.og_view.proofs.instead.Instead.rows_fit.Goals as goal
 pub returns : goal.returns
 returns g c =
     let i = c.self.inside in
-    let put = c.self.invariant in
+    let put = c.self.invariant.0 in
     let passes = g.T.RowTest.passes i.test.now in
     record {
       held = subst (λ db. AreHeld (schemas_of (known_of db)) (rows_of db)) c.self.view_is

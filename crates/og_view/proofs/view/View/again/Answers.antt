@@ -7,7 +7,7 @@ use Rattle.og_rel.specs.Relations.{instead}
 use Rattle.og_query.specs.Fits.{IsFitCore, tables_of}
 use Rattle.og_db.specs.Held.{known_of, rows_of}
 use Rattle.og_view.specs.Again.{passing_rows}
-use Rattle.og_view.specs.Bases.{instead_at}
+use Rattle.og_view.specs.Bases.{ArePassing, instead_at}
 use Rattle.og_view.specs.Placed.{cores_of}
 use Rattle.og_view.specs.Views.{IsAnswered}
 use Rattle.og_view.proofs.BaseLemmas.{tables_held}
@@ -15,6 +15,10 @@ use Rattle.og_view.proofs.ChangedLemmas.{fits_changed}
 use Rattle.og_view.proofs.InsertedLemmas.{cores_fit}
 use Rattle.og_view.proofs.RederivedLemmas.{passing_query}
 use Rattle.og_view.proofs.view.View.again.Goals as goal
+
+pub new-over-requires-clause-counted : goal.new-over-requires-clause-counted
+new-over-requires-clause-counted g c =
+    subst (λ v. ArePassing v.bases c.args.name.now (g.T.RowTest.passes c.args.test.now) c.args.passing) (sym c.self.view_is) c.requires.counted
 
 pub again_of-requires-clause-fits : goal.again_of-requires-clause-fits
 again_of-requires-clause-fits g c κs within =

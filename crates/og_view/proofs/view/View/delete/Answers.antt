@@ -1,4 +1,4 @@
-use Rattle.std.proofs.Common.{ap, map, sym, subst, ◌∙◌}
+use Rattle.std.proofs.Common.{ap, length, map, sym, subst, ◌∙◌}
 use Rattle.std.specs.List.{IsDistinct}
 use Rattle.std.specs.Str.{bytes_eq}
 use Rattle.std.proofs.lemmas.Result.{on_ok_weaker}
@@ -12,6 +12,10 @@ use Rattle.og_db.specs.Statements.{name_sizes_after}
 use Rattle.og_view.proofs.ChangedLemmas.{known_changed}
 use Rattle.og_view.proofs.TouchedLemmas.{left-names, left-sizes, shrinks}
 use Rattle.og_view.proofs.view.View.delete.Goals as goal
+
+pub shrink-requires-clause-counted : goal.shrink-requires-clause-counted
+shrink-requires-clause-counted g c κs within rel is =
+    c.len.ensures ∙ ap length (c.in_ok-rows.ensures.rows rel (ap (λ v. rows_of v.bases c.args.name.now) c.self.view_is ∙ is))
 
 pub shrink-requires-clause-gone : goal.shrink-requires-clause-gone
 shrink-requires-clause-gone g c κs within =

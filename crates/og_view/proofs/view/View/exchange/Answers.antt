@@ -13,13 +13,17 @@ use Rattle.og_query.proofs.QueryLemmas.{rows_ordered}
 use Rattle.og_exec.specs.Tables.{rows_at, rows_on, sizes_of}
 use Rattle.og_db.specs.Fits.{IsFitFixed}
 use Rattle.og_db.specs.Held.{known_of, rows_of}
-use Rattle.og_view.specs.Bases.{instead_at}
+use Rattle.og_view.specs.Bases.{ArePassing, instead_at}
 use Rattle.og_view.specs.Sieves.{row_passes}
 use Rattle.og_view.specs.Views.{IsAnswered, seen}
 use Rattle.og_view.proofs.AnswerLemmas.{answer_fits, tables_fit}
 use Rattle.og_view.proofs.BaseLemmas.{tables_held}
 use Rattle.og_view.proofs.ChangedLemmas.{fits_changed}
 use Rattle.og_view.proofs.view.View.exchange.Goals as goal
+
+pub new-over-requires-clause-counted : goal.new-over-requires-clause-counted
+new-over-requires-clause-counted g c =
+    subst (λ v. ArePassing v.bases c.args.name.now (g.T.RowTest.passes c.args.test.now) c.args.passing) (sym c.self.view_is) c.requires.counted
 
 pub invariant_of-self-2 : goal.invariant_of-self-2
 invariant_of-self-2 g c =

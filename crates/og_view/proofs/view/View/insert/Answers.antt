@@ -14,6 +14,7 @@ use Rattle.og_db.proofs.WorldLemmas.{made_of-changed_everywhere}
 use Rattle.og_view.specs.Bases.{instead_at}
 use Rattle.og_view.proofs.ChangedLemmas.{grown-new, instead-none, known_changed}
 use Rattle.og_view.proofs.InsertedLemmas.{answer-extended}
+use Rattle.og_view.proofs.TakenLemmas.{none-passing}
 use Rattle.og_view.proofs.view.View.insert.Goals as goal
 
 pub more_by-requires-clause-changed : goal.more_by-requires-clause-changed
@@ -25,6 +26,9 @@ pub more_by-requires-clause-table : goal.more_by-requires-clause-table
 more_by-requires-clause-table g c κs within =
     let t = c.requires.table in
     (t.0, t.1, subst (HaveKinds t.0) (sym (c.in_ok-new.ensures ∙ ap on_all_days c.in_ok-copy_rows.ensures)) (inserted_fit t.0 c.args.rows.now t.2))
+
+pub extend-requires-clause-counted : goal.extend-requires-clause-counted
+extend-requires-clause-counted g c κs within rel is = none-passing rel
 
 pub extend-requires-clause-changed : goal.extend-requires-clause-changed
 extend-requires-clause-changed g c κs within =

@@ -1,4 +1,4 @@
-use Rattle.std.proofs.Common.{ap, map, sym, subst, ◌∙◌}
+use Rattle.std.proofs.Common.{ap, length, map, sym, subst, ◌∙◌}
 use Rattle.std.specs.List.{IsDistinct}
 use Rattle.std.specs.Str.{bytes_eq}
 use Rattle.std.proofs.lemmas.Result.{on_ok_weaker}
@@ -12,6 +12,10 @@ use Rattle.og_db.specs.Statements.{name_sizes_after}
 use Rattle.og_view.proofs.ChangedLemmas.{known_changed}
 use Rattle.og_view.proofs.TouchedLemmas.{changed-names, changed-sizes, grows, shrinks}
 use Rattle.og_view.proofs.view.View.update.Goals as goal
+
+pub replace-requires-clause-counted : goal.replace-requires-clause-counted
+replace-requires-clause-counted g c κs within rel is =
+    c.len.ensures ∙ ap length (c.in_ok-rows.ensures.rows rel (ap (λ v. rows_of v.bases c.args.name.now) c.self.view_is ∙ is))
 
 pub replace-requires-clause-changed : goal.replace-requires-clause-changed
 replace-requires-clause-changed g c κs within =
