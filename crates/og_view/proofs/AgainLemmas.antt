@@ -1,7 +1,6 @@
 -- A core over parts of its tables: its rows that pass tests of its items are those that it has over the tables.
-use Rattle.std.proofs.Common.{◌≡◌, ◌&&◌, ℕ, ℤ, zero, suc, Bool, true, false, List, [], ◌∷◌, Option, Some, None, length, filter, map, slice_get, slice_index_or, refl, sym, ap, ◌∙◌, subst, arith}
+use Rattle.std.proofs.Common.{◌≡◌, ◌&&◌, ℕ, ℤ, zero, suc, Bool, true, List, [], ◌∷◌, Some, length, filter, map, slice_get, slice_index_or, refl, sym, ap, ◌∙◌, arith}
 use Rattle.std.specs.List.{All, list_any}
-use Rattle.std.specs.Option.{option_map}
 use Rattle.og_base.proofs.SetLemmas.{filter-set_of}
 use Rattle.og_base.proofs.SetMembers.{list_any-filter}
 use Rattle.og_rel.proofs.AlgebraLemmas.{same_set_by_tests}
@@ -16,7 +15,7 @@ use Rattle.og_query.specs.declared.query.Core.{Core}
 use Rattle.og_query.specs.declared.query.From1.{From1}
 use Rattle.og_query.proofs.Equations.{meaning-Column}
 use Rattle.og_query.proofs.QueryLemmas.{rows_ordered}
-use Rattle.og_exec.specs.Tables.{Relation, Relations, rows_at, rows_or_none}
+use Rattle.og_exec.specs.Tables.{Relation, Relations, rows_at}
 use Rattle.og_view.specs.Again.{passing_rows}
 use Rattle.og_view.specs.Bases.{AreHeld}
 use Rattle.og_view.specs.Parts.{AreParts, own, own_at, part_rels}
@@ -25,9 +24,9 @@ use Rattle.og_view.specs.Rows.{rows_over}
 use Rattle.og_view.specs.Sieves.{Test, passes, sifted}
 use Rattle.og_view.specs.declared.part.Part.{Part}
 use Rattle.og_view.proofs.GrownLemmas.{any_over}
-use Rattle.og_view.proofs.NarrowedLemmas.{HaveWidths, and_swap, first_of, second_of}
+use Rattle.og_view.proofs.NarrowedLemmas.{HaveWidths, first_of, second_of}
 use Rattle.og_view.proofs.PartLemmas.{AreThere, part_rows, rows_of_parts, same_any, whole_rows, widths}
-use Rattle.og_view.proofs.PlacedLemmas.{by_place, named_at}
+use Rattle.og_view.proofs.PlacedLemmas.{named_at}
 use Rattle.og_view.proofs.SieveLemmas.{sifted-none}
 
 -- the image has at the place of an item that is a column what the row has in that

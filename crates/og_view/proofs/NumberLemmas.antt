@@ -1,7 +1,7 @@
 -- Numbers between bounds.
-use Rattle.std.proofs.Common.{◌≡◌, ◌&&◌, ◌≤ℤ◌, ℤ, Bool, true, false, List, int_le, refl, sym, ap, arith}
+use Rattle.std.proofs.Common.{◌≡◌, ◌&&◌, ◌≤ℤ◌, ℤ, false, List, int_le, arith}
 use Rattle.std.specs.BTreeSet.{insert_key}
-use Rattle.std.specs.List.{All, list_any}
+use Rattle.std.specs.List.{list_any}
 use Rattle.std.specs.Ordering.{eq_by_cmp, int_cmp}
 use Rattle.std.proofs.lemmas.Int.{ints}
 use Rattle.std.proofs.lemmas.List.Elements.{All-weaker}

@@ -1,5 +1,5 @@
 -- Columns that a condition says are equal have one value.
-use Rattle.std.proofs.Common.{◌≡◌, ◌&&◌, ◌<◌, ◌+◌, ℤ, ℕ, Bool, true, false, List, Ordering, Less, Equal, Greater, slice_index_or, take, length, refl, sym, ap, ap₂, ◌∙◌, ◌++◌, ◌∷◌, []}
+use Rattle.std.proofs.Common.{◌≡◌, ◌<◌, ◌+◌, ℕ, Bool, true, false, List, Ordering, Less, Equal, Greater, slice_index_or, take, length, refl, sym, ap, ◌∙◌, ◌++◌, ◌∷◌, []}
 use Rattle.std.specs.Cmp.Lexicographic.{same_text, texts_ties}
 use Rattle.std.specs.List.{list_all}
 use Rattle.std.proofs.lemmas.List.{take_more}

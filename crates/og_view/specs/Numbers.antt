@@ -1,5 +1,5 @@
 -- Numbers, and bounds of them.
-use Rattle.std.specs.Prelude.{◌≡◌, ◌≤ℤ◌, ℤ, List}
+use Rattle.std.specs.Prelude.{◌≤ℤ◌, ℤ, List}
 use Rattle.std.specs.List.{All}
 
 -- all of the numbers lie between these two

@@ -1,4 +1,4 @@
-use Rattle.std.proofs.Common.{◌≡◌, ◌++◌, [], true, filter, ap, subst, sym, ◌∙◌}
+use Rattle.std.proofs.Common.{◌++◌, [], filter, ap, subst, sym, ◌∙◌}
 use Rattle.std.proofs.lemmas.Result.{on_ok_weaker}
 use Rattle.og_base.specs.Set.{set_of}
 use Rattle.og_value.specs.Order.{row_order}

@@ -1,7 +1,6 @@
-use Rattle.std.proofs.Common.{◌≡◌, ◌==◌, Some, Option, ap, if◌then◌else◌, sym, ◌∙◌}
+use Rattle.std.proofs.Common.{◌≡◌, ◌==◌, Some, ap, if◌then◌else◌, sym, ◌∙◌}
 use Rattle.std.specs.Option.{option_map}
 use Rattle.std.proofs.lemmas.Option.{get_or_from_slice_get}
-use Rattle.og_exec.specs.Tables.{Relation}
 use Rattle.og_view.specs.Parts.{rel_of}
 use Rattle.og_view.specs.Placed.{beside}
 use Rattle.og_view.specs.Sieves.{sifted}

@@ -1,7 +1,6 @@
-use Rattle.std.proofs.Common.{Contains, Some, ap, subst, sym, ◌∙◌}
+use Rattle.std.proofs.Common.{Contains, ap, subst, sym, ◌∙◌}
 use Rattle.std.proofs.lemmas.Option.{same_Some}
 use Rattle.std.proofs.lemmas.Result.{on_ok_weaker}
-use Rattle.std.specs.Option.{IfSome}
 use Rattle.og_plan.specs.Meaning.{column}
 use Rattle.og_view.specs.Sieves.{is_among}
 use Rattle.og_view.proofs.SieveLemmas.{passes-one}

@@ -1,4 +1,4 @@
-use Rattle.std.proofs.Common.{ap, length, ◌∙◌, arith}
+use Rattle.std.proofs.Common.{ap, length, arith}
 use Rattle.og_view.proofs.AgainLemmas.{sifted-no_tests}
 use Rattle.og_view.proofs.part.PartRows.of.Goals as goal
 
