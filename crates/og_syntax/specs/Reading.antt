@@ -4,6 +4,9 @@ use denote.Ref.{Bor}
 use Rattle.og_syntax.specs.declared.lexeme.Sort.{Sort}
 use Rattle.og_syntax.specs.declared.lexeme.Sort.TheVariants as k
 use Rattle.og_syntax.specs.declared.lexeme.Lexeme.{Lexeme}
+use Rattle.og_syntax.specs.declared.reading.Literals.{Literals}
+use Rattle.og_syntax.specs.declared.reading.Literals.TheVariants as literals
+use Rattle.og_syntax.specs.declared.reading.Reading.{Reading}
 use Rattle.og_syntax.specs.declared.refusal.Refusal.{Refusal}
 use Rattle.og_syntax.specs.declared.refusal.Refusal.TheVariants as r
 use Rattle.og_syntax.specs.Lexemes.{same_sort, sort_at, sees}
@@ -49,6 +52,15 @@ refuse = λ ts. None
 abbrev pub given : {A : Type 0} → Option A → Reads A
 given (Some x) = pure x
 given None = refuse
+
+-- each text after DATE, ONGOING and PERIOD has to be of its form
+abbrev pub is_strict : Literals → Bool
+is_strict literals.Strict = true
+is_strict literals.Lenient = false
+
+-- what reads such a script, with its literals read so
+abbrev pub by : {A : Type 0} → Reading → (List ℕ → Bool → A) → A
+by reading p = p reading.script.now (is_strict reading.literals)
 
 -- one of two, by the sort of the first lexeme
 abbrev pub choose : {A : Type 0} → (Sort → Bool) → Reads A → Reads A → Reads A

@@ -1,18 +1,18 @@
 //! Literals.
 ghost use Rattle.std.specs.Prelude.{◌≡◌, OnErr, IfOk};
-ghost use Rattle.og_syntax.specs.Reading.{Gives};
+ghost use Rattle.og_syntax.specs.Reading.{Gives, by};
 ghost use Rattle.og_syntax.specs.Reader as spec;
 ghost use Rattle.og_syntax.specs.Spans.{of_form, day_value_from, point_value_from, period_value_from};
 ghost use Rattle.og_syntax.specs.TextValues.{day_of, point_of, period_of};
 
 use crate::lexeme::{Lexeme, Sort};
+use crate::reading::Reading;
 use crate::refusal::Refusal;
 use crate::spelling::{quoted, text};
 use crate::step::{expect, one, same_sort, sort_at};
 use og_base::{ExtDay, read_day};
 use og_time::{OngoingPeriod, OngoingPoint, read_period, read_point};
 use og_value::Value;
-use std::alloc::Global;
 
 // The fixed point of a day text.
 fn day_value(text: &[u8]) -> Option<Value>
@@ -57,16 +57,14 @@ fn period_value(text: &[u8]) -> Option<Value>
 // The literal after DATE.
 #[tactic(auto, unfolding(crate::specs::Reader::day_lit))]
 fn day_literal<'a>(
-    alloc: Global,
-    script: &[u8],
-    strict: bool,
+    reading: &Reading<'_>,
     lexemes: &'a [Lexeme],
 ) -> Result<(Value, &'a [Lexeme]), Refusal>
-    ensures { Gives result (spec.day_lit script.now strict lexemes.now) }
+    ensures { Gives result (by reading.now spec.day_lit lexemes.now) }
 {
     let rest = expect(lexemes, Sort::Date)?;
-    let (text, rest) = quoted(alloc, script, rest)?;
-    if !strict {
+    let (text, rest) = quoted(reading, rest)?;
+    if !reading.literals.is_strict() {
         return Ok((Value::Int(0), rest));
     }
     match day_value(text.as_slice()) {
@@ -78,16 +76,14 @@ fn day_literal<'a>(
 // The literal after ONGOING.
 #[tactic(auto, unfolding(crate::specs::Reader::point_lit))]
 fn point_literal<'a>(
-    alloc: Global,
-    script: &[u8],
-    strict: bool,
+    reading: &Reading<'_>,
     lexemes: &'a [Lexeme],
 ) -> Result<(Value, &'a [Lexeme]), Refusal>
-    ensures { Gives result (spec.point_lit script.now strict lexemes.now) }
+    ensures { Gives result (by reading.now spec.point_lit lexemes.now) }
 {
     let rest = expect(lexemes, Sort::Ongoing)?;
-    let (text, rest) = quoted(alloc, script, rest)?;
-    if !strict {
+    let (text, rest) = quoted(reading, rest)?;
+    if !reading.literals.is_strict() {
         return Ok((Value::Int(0), rest));
     }
     match point_value(text.as_slice()) {
@@ -99,16 +95,14 @@ fn point_literal<'a>(
 // The literal after PERIOD.
 #[tactic(auto, unfolding(crate::specs::Reader::period_lit))]
 fn period_literal<'a>(
-    alloc: Global,
-    script: &[u8],
-    strict: bool,
+    reading: &Reading<'_>,
     lexemes: &'a [Lexeme],
 ) -> Result<(Value, &'a [Lexeme]), Refusal>
-    ensures { Gives result (spec.period_lit script.now strict lexemes.now) }
+    ensures { Gives result (by reading.now spec.period_lit lexemes.now) }
 {
     let rest = expect(lexemes, Sort::Period)?;
-    let (text, rest) = quoted(alloc, script, rest)?;
-    if !strict {
+    let (text, rest) = quoted(reading, rest)?;
+    if !reading.literals.is_strict() {
         return Ok((Value::Int(0), rest));
     }
     match period_value(text.as_slice()) {
@@ -117,16 +111,14 @@ fn period_literal<'a>(
     }
 }
 
-/// The literal that the lexemes begin with, and the lexemes after it. Where it is not strict, a
-/// number stands for each text after DATE, ONGOING and PERIOD, whatever it is.
+/// The literal that the lexemes begin with, and the lexemes after it. Leniently, a number stands for
+/// each text after DATE, ONGOING and PERIOD, whatever it is.
 #[tactic(auto, unfolding(crate::specs::Reader::lit))]
 pub fn literal<'a>(
-    alloc: Global,
-    script: &[u8],
-    strict: bool,
+    reading: &Reading<'_>,
     lexemes: &'a [Lexeme],
 ) -> Result<(Value, &'a [Lexeme]), Refusal>
-    ensures { Gives result (spec.lit script.now strict lexemes.now) }
+    ensures { Gives result (by reading.now spec.lit lexemes.now) }
 {
     let sort = sort_at(lexemes);
     if same_sort(sort, Sort::Number) {
@@ -134,14 +126,14 @@ pub fn literal<'a>(
         return Ok((Value::Int(lexeme.number), rest));
     }
     if same_sort(sort, Sort::Quoted) {
-        let (text, rest) = text(alloc, script, lexemes)?;
+        let (text, rest) = text(reading, lexemes)?;
         return Ok((Value::Text(text), rest));
     }
     if same_sort(sort, Sort::Date) {
-        return day_literal(alloc, script, strict, lexemes);
+        return day_literal(reading, lexemes);
     }
     if same_sort(sort, Sort::Ongoing) {
-        return point_literal(alloc, script, strict, lexemes);
+        return point_literal(reading, lexemes);
     }
-    period_literal(alloc, script, strict, lexemes)
+    period_literal(reading, lexemes)
 }

@@ -3,13 +3,14 @@ ghost use Rattle.std.specs.Prelude.{◌≡◌, ◌∷◌, [], None, Some};
 ghost use Rattle.og_syntax.specs.declared.lexeme.Sort.{Sort};
 ghost use Rattle.og_syntax.specs.Lexemes.{is, sort_at};
 ghost use Rattle.og_syntax.specs.Meanings.{set_op_of};
-ghost use Rattle.og_syntax.specs.Reading.{Gives, has, more, optional, past, with_front};
+ghost use Rattle.og_syntax.specs.Reading.{Gives, by, has, more, optional, past, with_front};
 ghost use Rattle.og_syntax.specs.Clauses as clauses;
 ghost use Rattle.og_syntax.specs.Reader as spec;
 
 use crate::items::items;
 use crate::lexeme::{Lexeme, Sort};
 use crate::meaning::set_op_of;
+use crate::reading::Reading;
 use crate::refusal::Refusal;
 use crate::step::{after, expect, followed, same_sort, sort_at};
 use crate::tables::tables;
@@ -23,16 +24,14 @@ use std::alloc::Global;
 /// only UNION between its cores.
 #[tactic(auto, unfolding(crate::specs::Reader::query))]
 pub fn query<'a>(
-    alloc: Global,
-    script: &[u8],
-    strict: bool,
+    reading: &Reading<'_>,
     live: bool,
     lexemes: &'a [Lexeme],
 ) -> Result<(QueryText, &'a [Lexeme]), Refusal>
-    ensures { Gives result (spec.query script.now strict live lexemes.now) }
+    ensures { Gives result (by reading.now spec.query live lexemes.now) }
 {
-    let (first, rest) = query_core(alloc, script, strict, live, lexemes)?;
-    match more_cores(alloc, script, strict, live, rest, Items::new(alloc)) {
+    let (first, rest) = query_core(reading, live, lexemes)?;
+    match more_cores(reading, live, rest, Items::new(reading.alloc)) {
         Ok((others, rest)) => Ok((
             QueryText {
                 first,
@@ -49,19 +48,17 @@ pub fn query<'a>(
 
 // Further cores, behind the parts that were read before.
 fn more_cores<'a>(
-    alloc: Global,
-    script: &[u8],
-    strict: bool,
+    reading: &Reading<'_>,
     live: bool,
     lexemes: &'a [Lexeme],
     parts: Items<RestText>,
 ) -> Result<(Items<RestText>, &'a [Lexeme]), Refusal>
-    ensures { Gives result (with_front parts (more (has (set_op_of live)) (spec.further_core script.now strict live) lexemes.now)) }
+    ensures { Gives result (with_front parts (more (has (set_op_of live)) (by reading.now spec.further_core live) lexemes.now)) }
 {
     let mut parts = parts;
     let mut rest = lexemes;
     'more: while set_op_of(live, sort_at(rest)).is_some() {
-        let (part, left) = further_core(alloc, script, strict, live, rest)?;
+        let (part, left) = further_core(reading, live, rest)?;
         parts.push(part)?;
         rest = left;
     }
@@ -71,53 +68,47 @@ fn more_cores<'a>(
 // A core after its operator.
 #[tactic(auto, unfolding(crate::specs::Reader::further_core, crate::specs::Reading::worded))]
 fn further_core<'a>(
-    alloc: Global,
-    script: &[u8],
-    strict: bool,
+    reading: &Reading<'_>,
     live: bool,
     lexemes: &'a [Lexeme],
 ) -> Result<(RestText, &'a [Lexeme]), Refusal>
-    ensures { Gives result (spec.further_core script.now strict live lexemes.now) }
+    ensures { Gives result (by reading.now spec.further_core live lexemes.now) }
 {
     let Some(op) = set_op_of(live, sort_at(lexemes)) else {
         return Err(Refusal::Syntax);
     };
-    let (core, rest) = query_core(alloc, script, strict, live, after(lexemes))?;
+    let (core, rest) = query_core(reading, live, after(lexemes))?;
     Ok((RestText { op, core }, rest))
 }
 
 // A SELECT.
 #[tactic(auto, unfolding(crate::specs::Reader::core))]
 fn query_core<'a>(
-    alloc: Global,
-    script: &[u8],
-    strict: bool,
+    reading: &Reading<'_>,
     live: bool,
     lexemes: &'a [Lexeme],
 ) -> Result<(CoreText, &'a [Lexeme]), Refusal>
-    ensures { Gives result (spec.core script.now strict live lexemes.now) }
+    ensures { Gives result (by reading.now spec.core live lexemes.now) }
 {
     let rest = expect(lexemes, Sort::Select)?;
-    let read = items(alloc, script, strict, rest)?;
+    let read = items(reading, rest)?;
     let (items, rest) = followed(read, Sort::From)?;
-    let (tables, rest) = tables(alloc, script, strict, rest)?;
-    let (found, rest) = where_part(alloc, script, strict, live, rest)?;
-    Ok((core_of(alloc, items, tables, found), rest))
+    let (tables, rest) = tables(reading, rest)?;
+    let (found, rest) = where_part(reading, live, rest)?;
+    Ok((core_of(reading.alloc, items, tables, found), rest))
 }
 
 // What stands after WHERE, or nothing.
 fn where_part<'a>(
-    alloc: Global,
-    script: &[u8],
-    strict: bool,
+    reading: &Reading<'_>,
     live: bool,
     lexemes: &'a [Lexeme],
 ) -> Result<(Option<Where>, &'a [Lexeme]), Refusal>
-    ensures { Gives result (optional (is Sort.Where) (past Sort.Where (spec.wcond script.now strict live)) lexemes.now) }
+    ensures { Gives result (optional (is Sort.Where) (past Sort.Where (by reading.now spec.wcond live)) lexemes.now) }
 {
     if same_sort(sort_at(lexemes), Sort::Where) {
         let rest = expect(lexemes, Sort::Where)?;
-        let (found, rest) = where_condition(alloc, script, strict, live, rest)?;
+        let (found, rest) = where_condition(reading, live, rest)?;
         return Ok((Some(found), rest));
     }
     Ok((None, lexemes))

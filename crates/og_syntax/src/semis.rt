@@ -3,47 +3,43 @@ ghost use Rattle.std.specs.Prelude.{◌≡◌, ◌&&◌, ◌||◌, ◌∷◌, []
 ghost use Rattle.og_syntax.specs.declared.lexeme.Sort.{Sort};
 ghost use Rattle.og_syntax.specs.Lexemes.{is, sees};
 ghost use Rattle.og_syntax.specs.Clauses.{semi_of};
-ghost use Rattle.og_syntax.specs.Reading.{Gives, bind, past, pure, more, optional, single, with_front};
+ghost use Rattle.og_syntax.specs.Reading.{Gives, by, bind, past, pure, more, optional, single, with_front};
 ghost use Rattle.og_syntax.specs.Reader as spec;
 
 use crate::conditions::condition;
 use crate::lexeme::{Lexeme, Sort};
+use crate::reading::Reading;
 use crate::refusal::Refusal;
 use crate::step::{after, expect, followed, list_of, same_sort, sees, sort_at};
 use crate::tables::table_name;
 use crate::tree::{CondText, SemiText};
 use sqlite_items::Items;
-use std::alloc::Global;
 
 // Several of them, with AND between them.
 #[tactic(auto, unfolding(crate::specs::Reader::semis))]
 pub fn semis<'a>(
-    alloc: Global,
-    script: &[u8],
-    strict: bool,
+    reading: &Reading<'_>,
     lexemes: &'a [Lexeme],
 ) -> Result<(Items<SemiText>, &'a [Lexeme]), Refusal>
-    ensures { Gives result (spec.semis script.now strict lexemes.now) }
+    ensures { Gives result (by reading.now spec.semis lexemes.now) }
 {
-    let (first, rest) = semi(alloc, script, strict, lexemes)?;
-    let parts = list_of(alloc, first)?;
-    more_semis(alloc, script, strict, rest, parts)
+    let (first, rest) = semi(reading, lexemes)?;
+    let parts = list_of(reading.alloc, first)?;
+    more_semis(reading, rest, parts)
 }
 
 // Further ones, each after AND, behind the parts that were read before.
 fn more_semis<'a>(
-    alloc: Global,
-    script: &[u8],
-    strict: bool,
+    reading: &Reading<'_>,
     lexemes: &'a [Lexeme],
     parts: Items<SemiText>,
 ) -> Result<(Items<SemiText>, &'a [Lexeme]), Refusal>
-    ensures { Gives result (with_front parts (more (is Sort.And) (past Sort.And (spec.semi script.now strict)) lexemes.now)) }
+    ensures { Gives result (with_front parts (more (is Sort.And) (past Sort.And (by reading.now spec.semi)) lexemes.now)) }
 {
     let mut parts = parts;
     let mut rest = lexemes;
     'more: while same_sort(sort_at(rest), Sort::And) {
-        let (part, left) = semi(alloc, script, strict, after(rest))?;
+        let (part, left) = semi(reading, after(rest))?;
         parts.push(part)?;
         rest = left;
     }
@@ -61,53 +57,47 @@ pub fn begins_semi(lexemes: &[Lexeme]) -> bool
 // EXISTS or NOT EXISTS, and a sub-select in parentheses.
 #[tactic(auto, unfolding(crate::specs::Reader::semi))]
 fn semi<'a>(
-    alloc: Global,
-    script: &[u8],
-    strict: bool,
+    reading: &Reading<'_>,
     lexemes: &'a [Lexeme],
 ) -> Result<(SemiText, &'a [Lexeme]), Refusal>
-    ensures { Gives result (spec.semi script.now strict lexemes.now) }
+    ensures { Gives result (by reading.now spec.semi lexemes.now) }
 {
     if same_sort(sort_at(lexemes), Sort::Exists) {
         let rest = expect(lexemes, Sort::Exists)?;
-        return sub_in_parens(alloc, script, strict, true, rest);
+        return sub_in_parens(reading, true, rest);
     }
     let rest = expect(lexemes, Sort::Not)?;
     let rest = expect(rest, Sort::Exists)?;
-    sub_in_parens(alloc, script, strict, false, rest)
+    sub_in_parens(reading, false, rest)
 }
 
 // A sub-select in parentheses, after EXISTS or after NOT EXISTS.
 fn sub_in_parens<'a>(
-    alloc: Global,
-    script: &[u8],
-    strict: bool,
+    reading: &Reading<'_>,
     positive: bool,
     lexemes: &'a [Lexeme],
 ) -> Result<(SemiText, &'a [Lexeme]), Refusal>
-    ensures { Gives result (bind (single (spec.sub script.now strict)) (λ x. pure (semi_of positive x)) lexemes.now) }
+    ensures { Gives result (bind (single (by reading.now spec.sub)) (λ x. pure (semi_of positive x)) lexemes.now) }
 {
     let rest = expect(lexemes, Sort::LeftParen)?;
-    let read = sub(alloc, script, strict, positive, rest)?;
+    let read = sub(reading, positive, rest)?;
     followed(read, Sort::RightParen)
 }
 
 // A sub-select, after EXISTS or after NOT EXISTS.
 #[tactic(auto, unfolding(crate::specs::Reader::sub))]
 fn sub<'a>(
-    alloc: Global,
-    script: &[u8],
-    strict: bool,
+    reading: &Reading<'_>,
     positive: bool,
     lexemes: &'a [Lexeme],
 ) -> Result<(SemiText, &'a [Lexeme]), Refusal>
-    ensures { Gives result (bind (spec.sub script.now strict) (λ x. pure (semi_of positive x)) lexemes.now) }
+    ensures { Gives result (bind (by reading.now spec.sub) (λ x. pure (semi_of positive x)) lexemes.now) }
 {
     let rest = expect(lexemes, Sort::Select)?;
     let rest = expect(rest, Sort::Star)?;
     let rest = expect(rest, Sort::From)?;
-    let ((name, alias), rest) = table_name(alloc, script, rest)?;
-    let (cond, rest) = sub_condition(alloc, script, strict, rest)?;
+    let ((name, alias), rest) = table_name(reading, rest)?;
+    let (cond, rest) = sub_condition(reading, rest)?;
     Ok((
         SemiText {
             positive,
@@ -121,16 +111,14 @@ fn sub<'a>(
 
 // The condition after WHERE, or none.
 fn sub_condition<'a>(
-    alloc: Global,
-    script: &[u8],
-    strict: bool,
+    reading: &Reading<'_>,
     lexemes: &'a [Lexeme],
 ) -> Result<(Option<CondText>, &'a [Lexeme]), Refusal>
-    ensures { Gives result (optional (is Sort.Where) (past Sort.Where (spec.cond script.now strict)) lexemes.now) }
+    ensures { Gives result (optional (is Sort.Where) (past Sort.Where (by reading.now spec.cond)) lexemes.now) }
 {
     if same_sort(sort_at(lexemes), Sort::Where) {
         let rest = expect(lexemes, Sort::Where)?;
-        let (cond, rest) = condition(alloc, script, strict, rest)?;
+        let (cond, rest) = condition(reading, rest)?;
         return Ok((Some(cond), rest));
     }
     Ok((None, lexemes))

@@ -5,11 +5,11 @@ ghost use Rattle.og_syntax.specs.Reader as spec;
 ghost use Rattle.og_syntax.specs.Spans as spans;
 
 use crate::lexeme::{Lexeme, Sort};
+use crate::reading::Reading;
 use crate::refusal::Refusal;
 use crate::step::one;
 use og_lex::{Token, TokenKind, Unquoted, has_text, text_of};
 use og_value::{Name, NameRefusal, Text, TextRefusal};
-use std::alloc::Global;
 
 /// The bytes of the lexeme.
 #[tactic(auto, unfolding(crate::specs::Spans::spelling))]
@@ -54,14 +54,13 @@ fn text_token(lexeme: Lexeme) -> Token
 /// The name that the lexemes begin with, in lower case, and the lexemes after it.
 #[tactic(auto, unfolding(crate::specs::Reader::name))]
 pub fn name<'a>(
-    alloc: Global,
-    script: &[u8],
+    reading: &Reading<'_>,
     lexemes: &'a [Lexeme],
 ) -> Result<(Name, &'a [Lexeme]), Refusal>
-    ensures { Gives result (spec.name script.now lexemes.now) }
+    ensures { Gives result (spec.name reading.now.script.now lexemes.now) }
 {
     let (lexeme, rest) = one(lexemes, Sort::Name)?;
-    match Name::of(alloc, bytes_of(script, lexeme)) {
+    match Name::of(reading.alloc, bytes_of(reading.script, lexeme)) {
         Ok(name) => Ok((name, rest)),
         Err(NameRefusal::NotAName) => Err(Refusal::Syntax),
         Err(NameRefusal::NoMemory) => Err(Refusal::NoMemory),
@@ -71,31 +70,29 @@ pub fn name<'a>(
 /// What stands between the quotes that the lexemes begin with, each doubled quote made single.
 #[tactic(auto, unfolding(crate::specs::Reader::quoted))]
 pub fn quoted<'a, 's>(
-    alloc: Global,
-    script: &'s [u8],
+    reading: &Reading<'s>,
     lexemes: &'a [Lexeme],
 ) -> Result<(Unquoted<'s>, &'a [Lexeme]), Refusal>
-    ensures { Gives result (spec.quoted script.now lexemes.now) }
+    ensures { Gives result (spec.quoted reading.now.script.now lexemes.now) }
 {
     let (lexeme, rest) = one(lexemes, Sort::Quoted)?;
     let token = text_token(lexeme);
-    if !has_text(script, &token) {
+    if !has_text(reading.script, &token) {
         return Err(Refusal::Syntax);
     }
-    Ok((text_of(alloc, script, &token)?, rest))
+    Ok((text_of(reading.alloc, reading.script, &token)?, rest))
 }
 
 /// The text that the lexemes begin with, and the lexemes after it.
 #[tactic(auto, unfolding(crate::specs::Reader::text))]
 pub fn text<'a>(
-    alloc: Global,
-    script: &[u8],
+    reading: &Reading<'_>,
     lexemes: &'a [Lexeme],
 ) -> Result<(Text, &'a [Lexeme]), Refusal>
-    ensures { Gives result (spec.text script.now lexemes.now) }
+    ensures { Gives result (spec.text reading.now.script.now lexemes.now) }
 {
-    let (bytes, rest) = quoted(alloc, script, lexemes)?;
-    match Text::of(alloc, bytes.as_slice()) {
+    let (bytes, rest) = quoted(reading, lexemes)?;
+    match Text::of(reading.alloc, bytes.as_slice()) {
         Ok(text) => Ok((text, rest)),
         Err(TextRefusal::NotText) => Err(Refusal::Syntax),
         Err(TextRefusal::NoMemory) => Err(Refusal::NoMemory),

@@ -2,18 +2,18 @@
 ghost use Rattle.std.specs.Prelude.{◌≡◌, ◌&&◌, ◌∷◌, [], not, drop, None, Some};
 ghost use Rattle.og_syntax.specs.declared.lexeme.Sort.{Sort};
 ghost use Rattle.og_syntax.specs.Lexemes.{sees};
-ghost use Rattle.og_syntax.specs.Reading.{Gives, past, more_if, with_front};
+ghost use Rattle.og_syntax.specs.Reading.{Gives, by, past, more_if, with_front};
 ghost use Rattle.og_syntax.specs.Clauses.{all_of, any_of};
 ghost use Rattle.og_syntax.specs.Reader as spec;
 
 use crate::conditions::{all_of, any_of, condition, more_conjunctions_in, negation_in};
 use crate::lexeme::{Lexeme, Sort};
+use crate::reading::Reading;
 use crate::refusal::Refusal;
 use crate::semis::{begins_semi, semis};
 use crate::step::{after, expect, list_of, same_sort, sees, sort_at};
 use crate::tree::{CondText, SemiText};
 use sqlite_items::Items;
-use std::alloc::Global;
 
 // A condition, and conditions of EXISTS and NOT EXISTS.
 pub type Where = (Option<CondText>, Items<SemiText>);
@@ -21,57 +21,51 @@ pub type Where = (Option<CondText>, Items<SemiText>);
 // What stands after WHERE. In a live query no EXISTS stands there.
 #[tactic(auto, unfolding(crate::specs::Reader::wcond))]
 pub fn where_condition<'a>(
-    alloc: Global,
-    script: &[u8],
-    strict: bool,
+    reading: &Reading<'_>,
     live: bool,
     lexemes: &'a [Lexeme],
 ) -> Result<(Where, &'a [Lexeme]), Refusal>
-    ensures { Gives result (spec.wcond script.now strict live lexemes.now) }
+    ensures { Gives result (by reading.now spec.wcond live lexemes.now) }
 {
     if live {
-        let (cond, rest) = condition(alloc, script, strict, lexemes)?;
-        return Ok(((Some(cond), Items::new(alloc)), rest));
+        let (cond, rest) = condition(reading, lexemes)?;
+        return Ok(((Some(cond), Items::new(reading.alloc)), rest));
     }
-    where_in(alloc, script, strict, lexemes, lexemes.len())
+    where_in(reading, lexemes, lexemes.len())
 }
 
 // What stands after WHERE, where negations are nested no deeper than the number.
 #[tactic(auto, unfolding(crate::specs::Reader::wcond_of))]
 fn where_in<'a>(
-    alloc: Global,
-    script: &[u8],
-    strict: bool,
+    reading: &Reading<'_>,
     lexemes: &'a [Lexeme],
     depth: usize,
 ) -> Result<(Where, &'a [Lexeme]), Refusal>
-    ensures { Gives result (spec.wcond_of script.now strict (spec.neg_in script.now strict depth) lexemes.now) }
+    ensures { Gives result (by reading.now spec.wcond_of (by reading.now spec.neg_in depth) lexemes.now) }
 {
     if begins_semi(lexemes) {
-        let (semis, rest) = semis(alloc, script, strict, lexemes)?;
+        let (semis, rest) = semis(reading, lexemes)?;
         return Ok(((None, semis), rest));
     }
-    let (first, rest) = negation_in(alloc, script, strict, lexemes, depth)?;
-    let parts = list_of(alloc, first)?;
-    let (parts, rest) = more_before_semis(alloc, script, strict, rest, depth, parts)?;
-    where_end(alloc, script, strict, rest, depth, parts)
+    let (first, rest) = negation_in(reading, lexemes, depth)?;
+    let parts = list_of(reading.alloc, first)?;
+    let (parts, rest) = more_before_semis(reading, rest, depth, parts)?;
+    where_end(reading, rest, depth, parts)
 }
 
 // Further negations, each after AND, behind the parts that were read before.
 fn more_before_semis<'a>(
-    alloc: Global,
-    script: &[u8],
-    strict: bool,
+    reading: &Reading<'_>,
     lexemes: &'a [Lexeme],
     depth: usize,
     parts: Items<CondText>,
 ) -> Result<(Items<CondText>, &'a [Lexeme]), Refusal>
-    ensures { Gives result (with_front parts (more_if spec.and_neg (past Sort.And (spec.neg_in script.now strict depth)) lexemes.now)) }
+    ensures { Gives result (with_front parts (more_if spec.and_neg (past Sort.And (by reading.now spec.neg_in depth)) lexemes.now)) }
 {
     let mut parts = parts;
     let mut rest = lexemes;
     'more: while and_negation(rest) {
-        let (part, left) = further_negation(alloc, script, strict, rest, depth)?;
+        let (part, left) = further_negation(reading, rest, depth)?;
         parts.push(part)?;
         rest = left;
     }
@@ -88,36 +82,32 @@ fn and_negation(lexemes: &[Lexeme]) -> bool
 
 // A negation after AND.
 fn further_negation<'a>(
-    alloc: Global,
-    script: &[u8],
-    strict: bool,
+    reading: &Reading<'_>,
     lexemes: &'a [Lexeme],
     depth: usize,
 ) -> Result<(CondText, &'a [Lexeme]), Refusal>
-    ensures { Gives result (past Sort.And (spec.neg_in script.now strict depth) lexemes.now) }
+    ensures { Gives result (past Sort.And (by reading.now spec.neg_in depth) lexemes.now) }
 {
     let rest = expect(lexemes, Sort::And)?;
-    negation_in(alloc, script, strict, rest, depth)
+    negation_in(reading, rest, depth)
 }
 
 // Conditions of EXISTS after AND, or further conjunctions after OR, behind negations with AND between them.
 #[tactic(auto, unfolding(crate::specs::Reader::where_end))]
 fn where_end<'a>(
-    alloc: Global,
-    script: &[u8],
-    strict: bool,
+    reading: &Reading<'_>,
     lexemes: &'a [Lexeme],
     depth: usize,
     parts: Items<CondText>,
 ) -> Result<(Where, &'a [Lexeme]), Refusal>
-    ensures { Gives result (spec.where_end script.now strict (spec.neg_in script.now strict depth) parts lexemes.now) }
+    ensures { Gives result (by reading.now spec.where_end (by reading.now spec.neg_in depth) parts lexemes.now) }
 {
     if same_sort(sort_at(lexemes), Sort::And) {
         let rest = expect(lexemes, Sort::And)?;
-        let (semis, rest) = semis(alloc, script, strict, rest)?;
+        let (semis, rest) = semis(reading, rest)?;
         return Ok(((Some(all_of(parts)), semis), rest));
     }
-    let either = list_of(alloc, all_of(parts))?;
-    let (either, rest) = more_conjunctions_in(alloc, script, strict, lexemes, depth, either)?;
-    Ok(((Some(any_of(either)), Items::new(alloc)), rest))
+    let either = list_of(reading.alloc, all_of(parts))?;
+    let (either, rest) = more_conjunctions_in(reading, lexemes, depth, either)?;
+    Ok(((Some(any_of(either)), Items::new(reading.alloc)), rest))
 }

@@ -1,7 +1,7 @@
 use Rattle.std.proofs.Common.{◌≡◌, ◌+◌, ◌*◌, length}
 use Rattle.og_syntax.specs.Lexemes.{is}
 use Rattle.og_syntax.specs.declared.lexeme.Sort.TheVariants as k
-use Rattle.og_syntax.specs.Reading.{past, more, with_front}
+use Rattle.og_syntax.specs.Reading.{by, past, more, with_front}
 use Rattle.og_syntax.specs.Reader.{neg_in, conj_of}
 use Rattle.og_syntax.proofs.conditions.+conditions.Given as goal
 
@@ -28,16 +28,16 @@ decreases-atom_in l = 7 * l.depth + 6
 
 abbrev pub invariant-more_negations_in-more : goal.invariant-more_negations_in-more
 invariant-more_negations_in-more l =
-    with_front l.parts (more (is k.And) (past k.And (neg_in l.script l.strict l.depth)) l.rest)
-    ≡ with_front l.fn.parts (more (is k.And) (past k.And (neg_in l.script l.strict l.depth)) l.lexemes)
+    with_front l.parts (more (is k.And) (past k.And (by l.reading neg_in l.depth)) l.rest)
+    ≡ with_front l.fn.parts (more (is k.And) (past k.And (by l.reading neg_in l.depth)) l.lexemes)
 
 abbrev pub decreases-more_negations_in-more : goal.decreases-more_negations_in-more
 decreases-more_negations_in-more l = length l.rest
 
 abbrev pub invariant-more_conjunctions_in-more : goal.invariant-more_conjunctions_in-more
 invariant-more_conjunctions_in-more l =
-    with_front l.parts (more (is k.Or) (past k.Or (conj_of (neg_in l.script l.strict l.depth))) l.rest)
-    ≡ with_front l.fn.parts (more (is k.Or) (past k.Or (conj_of (neg_in l.script l.strict l.depth))) l.lexemes)
+    with_front l.parts (more (is k.Or) (past k.Or (conj_of (by l.reading neg_in l.depth))) l.rest)
+    ≡ with_front l.fn.parts (more (is k.Or) (past k.Or (conj_of (by l.reading neg_in l.depth))) l.lexemes)
 
 abbrev pub decreases-more_conjunctions_in-more : goal.decreases-more_conjunctions_in-more
 decreases-more_conjunctions_in-more l = length l.rest
