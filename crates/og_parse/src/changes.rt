@@ -1,14 +1,13 @@
 //! Statements that change tables.
 ghost use Rattle.std.specs.Prelude.{◌≡◌};
-ghost use Rattle.og_syntax.specs.Reading.{Gives};
+ghost use Rattle.og_syntax.specs.Reading.{Gives, by};
 ghost use Rattle.og_parse.specs.StatementReader as spec;
 
 use crate::assignments::sets;
 use crate::columns::coldefs;
 use crate::endings::where_cond;
 use crate::tuples::tuples;
-use og_syntax::{Lexeme, Refusal, Sort, Stmt, expect, name, same_sort, sort_at};
-use std::alloc::Global;
+use og_syntax::{Lexeme, Reading, Refusal, Sort, Stmt, expect, name, same_sort, sort_at};
 
 // Whether a statement that changes tables begins so.
 pub fn begins_change(sort: Sort) -> bool
@@ -24,110 +23,88 @@ pub fn begins_change(sort: Sort) -> bool
 // A statement that changes tables.
 #[tactic(auto, unfolding(crate::specs::StatementReader::change))]
 pub fn change<'a>(
-    alloc: Global,
-    script: &[u8],
-    strict: bool,
+    reading: &Reading<'_>,
     lexemes: &'a [Lexeme],
 ) -> Result<(Stmt, &'a [Lexeme]), Refusal>
-    ensures { Gives result (spec.change script.now strict lexemes.now) }
+    ensures { Gives result (by reading.now spec.change lexemes.now) }
 {
     let sort = sort_at(lexemes);
     if same_sort(sort, Sort::Create) {
-        return create(alloc, script, lexemes);
+        return create(reading, lexemes);
     }
     if same_sort(sort, Sort::Insert) {
-        return insert(alloc, script, strict, lexemes);
+        return insert(reading, lexemes);
     }
     if same_sort(sort, Sort::Delete) {
-        return delete(alloc, script, strict, lexemes);
+        return delete(reading, lexemes);
     }
     if same_sort(sort, Sort::Update) {
-        return update(alloc, script, strict, lexemes);
+        return update(reading, lexemes);
     }
-    drop_name(alloc, script, lexemes)
+    drop_name(reading, lexemes)
 }
 
 // CREATE TABLE.
 #[tactic(auto, unfolding(crate::specs::StatementReader::create))]
-fn create<'a>(
-    alloc: Global,
-    script: &[u8],
-    lexemes: &'a [Lexeme],
-) -> Result<(Stmt, &'a [Lexeme]), Refusal>
-    ensures { Gives result (spec.create script.now lexemes.now) }
+fn create<'a>(reading: &Reading<'_>, lexemes: &'a [Lexeme]) -> Result<(Stmt, &'a [Lexeme]), Refusal>
+    ensures { Gives result (spec.create reading.now.script.now lexemes.now) }
 {
     let rest = expect(lexemes, Sort::Create)?;
     let rest = expect(rest, Sort::Table)?;
-    let (name, rest) = name(alloc, script, rest)?;
+    let (name, rest) = name(reading, rest)?;
     let rest = expect(rest, Sort::LeftParen)?;
-    let (columns, rest) = coldefs(alloc, script, rest)?;
+    let (columns, rest) = coldefs(reading, rest)?;
     let rest = expect(rest, Sort::RightParen)?;
     Ok((Stmt::Create { name, columns }, rest))
 }
 
 // INSERT.
 #[tactic(auto, unfolding(crate::specs::StatementReader::insert))]
-fn insert<'a>(
-    alloc: Global,
-    script: &[u8],
-    strict: bool,
-    lexemes: &'a [Lexeme],
-) -> Result<(Stmt, &'a [Lexeme]), Refusal>
-    ensures { Gives result (spec.insert script.now strict lexemes.now) }
+fn insert<'a>(reading: &Reading<'_>, lexemes: &'a [Lexeme]) -> Result<(Stmt, &'a [Lexeme]), Refusal>
+    ensures { Gives result (by reading.now spec.insert lexemes.now) }
 {
     let rest = expect(lexemes, Sort::Insert)?;
     let rest = expect(rest, Sort::Into)?;
-    let (name, rest) = name(alloc, script, rest)?;
+    let (name, rest) = name(reading, rest)?;
     let rest = expect(rest, Sort::Values)?;
-    let (rows, rest) = tuples(alloc, script, strict, rest)?;
+    let (rows, rest) = tuples(reading, rest)?;
     Ok((Stmt::Insert { name, rows }, rest))
 }
 
 // DELETE.
 #[tactic(auto, unfolding(crate::specs::StatementReader::delete))]
-fn delete<'a>(
-    alloc: Global,
-    script: &[u8],
-    strict: bool,
-    lexemes: &'a [Lexeme],
-) -> Result<(Stmt, &'a [Lexeme]), Refusal>
-    ensures { Gives result (spec.delete script.now strict lexemes.now) }
+fn delete<'a>(reading: &Reading<'_>, lexemes: &'a [Lexeme]) -> Result<(Stmt, &'a [Lexeme]), Refusal>
+    ensures { Gives result (by reading.now spec.delete lexemes.now) }
 {
     let rest = expect(lexemes, Sort::Delete)?;
     let rest = expect(rest, Sort::From)?;
-    let (name, rest) = name(alloc, script, rest)?;
-    let (cond, rest) = where_cond(alloc, script, strict, rest)?;
+    let (name, rest) = name(reading, rest)?;
+    let (cond, rest) = where_cond(reading, rest)?;
     Ok((Stmt::Delete { name, cond }, rest))
 }
 
 // UPDATE.
 #[tactic(auto, unfolding(crate::specs::StatementReader::update))]
-fn update<'a>(
-    alloc: Global,
-    script: &[u8],
-    strict: bool,
-    lexemes: &'a [Lexeme],
-) -> Result<(Stmt, &'a [Lexeme]), Refusal>
-    ensures { Gives result (spec.update script.now strict lexemes.now) }
+fn update<'a>(reading: &Reading<'_>, lexemes: &'a [Lexeme]) -> Result<(Stmt, &'a [Lexeme]), Refusal>
+    ensures { Gives result (by reading.now spec.update lexemes.now) }
 {
     let rest = expect(lexemes, Sort::Update)?;
-    let (name, rest) = name(alloc, script, rest)?;
+    let (name, rest) = name(reading, rest)?;
     let rest = expect(rest, Sort::Set)?;
-    let (sets, rest) = sets(alloc, script, strict, rest)?;
-    let (cond, rest) = where_cond(alloc, script, strict, rest)?;
+    let (sets, rest) = sets(reading, rest)?;
+    let (cond, rest) = where_cond(reading, rest)?;
     Ok((Stmt::Update { name, sets, cond }, rest))
 }
 
 // DROP.
 #[tactic(auto, unfolding(crate::specs::StatementReader::drop_name))]
 fn drop_name<'a>(
-    alloc: Global,
-    script: &[u8],
+    reading: &Reading<'_>,
     lexemes: &'a [Lexeme],
 ) -> Result<(Stmt, &'a [Lexeme]), Refusal>
-    ensures { Gives result (spec.drop_name script.now lexemes.now) }
+    ensures { Gives result (spec.drop_name reading.now.script.now lexemes.now) }
 {
     let rest = expect(lexemes, Sort::Drop)?;
-    let (name, rest) = name(alloc, script, rest)?;
+    let (name, rest) = name(reading, rest)?;
     Ok((Stmt::Drop { name }, rest))
 }

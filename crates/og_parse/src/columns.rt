@@ -6,39 +6,36 @@ ghost use Rattle.og_syntax.specs.Reading.{Gives, past, more, with_front};
 ghost use Rattle.og_parse.specs.StatementReader as spec;
 ghost use Rattle.og_parse.specs.Statements as grammar;
 
-use og_syntax::{Lexeme, Refusal, Sort, after, name, same_sort, sort_at};
+use og_syntax::{Lexeme, Reading, Refusal, Sort, after, name, same_sort, sort_at};
 use og_value::{Column, Kind};
 use sqlite_items::Items;
-use std::alloc::Global;
 
 // Columns with commas between them.
 #[tactic(auto, unfolding(crate::specs::StatementReader::coldefs))]
 pub fn coldefs<'a>(
-    alloc: Global,
-    script: &[u8],
+    reading: &Reading<'_>,
     lexemes: &'a [Lexeme],
 ) -> Result<(Items<Column>, &'a [Lexeme]), Refusal>
-    ensures { Gives result (spec.coldefs script.now lexemes.now) }
+    ensures { Gives result (spec.coldefs reading.now.script.now lexemes.now) }
 {
-    let (first, rest) = coldef(alloc, script, lexemes)?;
-    let mut parts = Items::new(alloc);
+    let (first, rest) = coldef(reading, lexemes)?;
+    let mut parts = Items::new(reading.alloc);
     parts.push(first)?;
-    more_coldefs(alloc, script, rest, parts)
+    more_coldefs(reading, rest, parts)
 }
 
 // Further columns, each after a comma, behind those that were read before.
 fn more_coldefs<'a>(
-    alloc: Global,
-    script: &[u8],
+    reading: &Reading<'_>,
     lexemes: &'a [Lexeme],
     parts: Items<Column>,
 ) -> Result<(Items<Column>, &'a [Lexeme]), Refusal>
-    ensures { Gives result (with_front parts (more (is Sort.Comma) (past Sort.Comma (spec.coldef script.now)) lexemes.now)) }
+    ensures { Gives result (with_front parts (more (is Sort.Comma) (past Sort.Comma (spec.coldef reading.now.script.now)) lexemes.now)) }
 {
     let mut parts = parts;
     let mut rest = lexemes;
     'more: while same_sort(sort_at(rest), Sort::Comma) {
-        let (part, left) = coldef(alloc, script, after(rest))?;
+        let (part, left) = coldef(reading, after(rest))?;
         parts.push(part)?;
         rest = left;
     }
@@ -48,13 +45,12 @@ fn more_coldefs<'a>(
 // A name and the word of its kind.
 #[tactic(auto, unfolding(crate::specs::StatementReader::coldef, og_syntax::specs::Reading::worded))]
 fn coldef<'a>(
-    alloc: Global,
-    script: &[u8],
+    reading: &Reading<'_>,
     lexemes: &'a [Lexeme],
 ) -> Result<(Column, &'a [Lexeme]), Refusal>
-    ensures { Gives result (spec.coldef script.now lexemes.now) }
+    ensures { Gives result (spec.coldef reading.now.script.now lexemes.now) }
 {
-    let (name, rest) = name(alloc, script, lexemes)?;
+    let (name, rest) = name(reading, lexemes)?;
     let Some(kind) = kind_of(sort_at(rest)) else {
         return Err(Refusal::Syntax);
     };

@@ -3,8 +3,7 @@ ghost use Rattle.std.specs.Prelude.{◌≡◌};
 ghost use Rattle.og_syntax.specs.Reading.{Gives};
 ghost use Rattle.og_parse.specs.StatementReader as spec;
 
-use og_syntax::{Lexeme, Refusal, Sort, Stmt, expect, name, same_sort, sort_at, text};
-use std::alloc::Global;
+use og_syntax::{Lexeme, Reading, Refusal, Sort, Stmt, expect, name, same_sort, sort_at, text};
 
 // Whether a statement of files begins so.
 pub fn begins_file_statement(sort: Sort) -> bool
@@ -16,67 +15,60 @@ pub fn begins_file_statement(sort: Sort) -> bool
 // A statement of files.
 #[tactic(auto, unfolding(crate::specs::StatementReader::file_statement))]
 pub fn file_statement<'a>(
-    alloc: Global,
-    script: &[u8],
+    reading: &Reading<'_>,
     lexemes: &'a [Lexeme],
 ) -> Result<(Stmt, &'a [Lexeme]), Refusal>
-    ensures { Gives result (spec.file_statement script.now lexemes.now) }
+    ensures { Gives result (spec.file_statement reading.now.script.now lexemes.now) }
 {
     let sort = sort_at(lexemes);
     if same_sort(sort, Sort::Save) {
-        return save(alloc, script, lexemes);
+        return save(reading, lexemes);
     }
     if same_sort(sort, Sort::Open) {
-        return open_file(alloc, script, lexemes);
+        return open_file(reading, lexemes);
     }
-    import_into(alloc, script, lexemes)
+    import_into(reading, lexemes)
 }
 
 // SAVE.
 #[tactic(auto, unfolding(crate::specs::StatementReader::save))]
-fn save<'a>(
-    alloc: Global,
-    script: &[u8],
-    lexemes: &'a [Lexeme],
-) -> Result<(Stmt, &'a [Lexeme]), Refusal>
-    ensures { Gives result (spec.save script.now lexemes.now) }
+fn save<'a>(reading: &Reading<'_>, lexemes: &'a [Lexeme]) -> Result<(Stmt, &'a [Lexeme]), Refusal>
+    ensures { Gives result (spec.save reading.now.script.now lexemes.now) }
 {
     let rest = expect(lexemes, Sort::Save)?;
-    let (name, rest) = name(alloc, script, rest)?;
+    let (name, rest) = name(reading, rest)?;
     let rest = expect(rest, Sort::To)?;
-    let (file, rest) = text(alloc, script, rest)?;
+    let (file, rest) = text(reading, rest)?;
     Ok((Stmt::Save { name, file }, rest))
 }
 
 // OPEN.
 #[tactic(auto, unfolding(crate::specs::StatementReader::open_file))]
 fn open_file<'a>(
-    alloc: Global,
-    script: &[u8],
+    reading: &Reading<'_>,
     lexemes: &'a [Lexeme],
 ) -> Result<(Stmt, &'a [Lexeme]), Refusal>
-    ensures { Gives result (spec.open_file script.now lexemes.now) }
+    ensures { Gives result (spec.open_file reading.now.script.now lexemes.now) }
 {
     let rest = expect(lexemes, Sort::Open)?;
-    let (name, rest) = name(alloc, script, rest)?;
+    let (name, rest) = name(reading, rest)?;
     let rest = expect(rest, Sort::From)?;
-    let (file, rest) = text(alloc, script, rest)?;
+    let (file, rest) = text(reading, rest)?;
     Ok((Stmt::OpenFile { name, file }, rest))
 }
 
 // IMPORT.
 #[tactic(auto, unfolding(crate::specs::StatementReader::import_into))]
 fn import_into<'a>(
-    alloc: Global,
-    script: &[u8],
+    reading: &Reading<'_>,
     lexemes: &'a [Lexeme],
 ) -> Result<(Stmt, &'a [Lexeme]), Refusal>
-    ensures { Gives result (spec.import_into script.now lexemes.now) }
+    ensures { Gives result (spec.import_into reading.now.script.now lexemes.now) }
 {
     let rest = expect(lexemes, Sort::Import)?;
     let rest = expect(rest, Sort::Into)?;
-    let (name, rest) = name(alloc, script, rest)?;
+    let (name, rest) = name(reading, rest)?;
     let rest = expect(rest, Sort::From)?;
-    let (file, rest) = text(alloc, script, rest)?;
+    let (file, rest) = text(reading, rest)?;
     Ok((Stmt::ImportFile { name, file }, rest))
 }

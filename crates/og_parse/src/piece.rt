@@ -1,5 +1,6 @@
 //! Pieces, each a statement or none.
 ghost use Rattle.std.specs.Prelude.{◌≡◌, true, false, IfOk, IfErr};
+ghost use Rattle.og_syntax.specs.Reading.{by};
 ghost use Rattle.og_parse.specs.Whole.{GivesAll};
 ghost use Rattle.og_parse.specs.Script.{IsGood, IsNone, HasFault, OrNoMemory};
 ghost use Rattle.og_parse.specs.Depth.{is_too_deep};
@@ -8,7 +9,7 @@ ghost use Rattle.og_parse.specs.StatementReader.{whole};
 use crate::depth::is_too_deep;
 use crate::refusal::ParseRefusal;
 use crate::statement::statement;
-use og_syntax::{Lexeme, Refusal, Stmt};
+use og_syntax::{Lexeme, Literals, Reading, Refusal, Stmt};
 use std::alloc::Global;
 
 // The statement of a piece, or its fault with the number of the statement.
@@ -24,7 +25,12 @@ pub fn read_piece(
     if is_too_deep(piece) {
         return Err(ParseRefusal::TooDeep { statement: number });
     }
-    match whole(alloc, script, true, piece) {
+    let strictly = Reading {
+        alloc,
+        script,
+        literals: Literals::Strict,
+    };
+    match whole(&strictly, piece) {
         Ok(stmt) => Ok(stmt),
         Err(Refusal::Syntax) => Err(fault_of(alloc, script, piece, number)),
         Err(Refusal::NoMemory) => Err(ParseRefusal::NoMemory),
@@ -37,7 +43,12 @@ fn fault_of(alloc: Global, script: &[u8], piece: &[Lexeme], number: usize) -> Pa
     requires none { IsNone script.now true piece.now }
     ensures { OrNoMemory (HasFault script.now number piece.now) result }
 {
-    match whole(alloc, script, false, piece) {
+    let leniently = Reading {
+        alloc,
+        script,
+        literals: Literals::Lenient,
+    };
+    match whole(&leniently, piece) {
         Ok(stmt) => {
             drop(stmt);
             ParseRefusal::Literal { statement: number }
@@ -49,10 +60,10 @@ fn fault_of(alloc: Global, script: &[u8], piece: &[Lexeme], number: usize) -> Pa
 
 // The statement that all of the lexemes are.
 #[tactic(auto, unfolding(crate::specs::StatementReader::whole))]
-fn whole(alloc: Global, script: &[u8], strict: bool, piece: &[Lexeme]) -> Result<Stmt, Refusal>
-    ensures { GivesAll result (whole script.now strict piece.now) }
+fn whole(reading: &Reading<'_>, piece: &[Lexeme]) -> Result<Stmt, Refusal>
+    ensures { GivesAll result (by reading.now whole piece.now) }
 {
-    let (stmt, rest) = statement(alloc, script, strict, piece)?;
+    let (stmt, rest) = statement(reading, piece)?;
     if rest.is_empty() {
         return Ok(stmt);
     }

@@ -1,24 +1,21 @@
 //! Statements.
-ghost use Rattle.og_syntax.specs.Reading.{Gives};
+ghost use Rattle.og_syntax.specs.Reading.{Gives, by};
 ghost use Rattle.og_parse.specs.StatementReader as spec;
 
 use crate::answers::answer;
 use crate::changes::{begins_change, change};
 use crate::files::{begins_file_statement, file_statement};
-use og_syntax::{Lexeme, Refusal, Sort, Stmt, after, sees, sort_at};
-use std::alloc::Global;
+use og_syntax::{Lexeme, Reading, Refusal, Sort, Stmt, after, sees, sort_at};
 
 // A statement with its semicolon.
 #[tactic(auto, unfolding(crate::specs::StatementReader::statement, og_syntax::specs::Reading::tok))]
 pub fn statement<'a>(
-    alloc: Global,
-    script: &[u8],
-    strict: bool,
+    reading: &Reading<'_>,
     lexemes: &'a [Lexeme],
 ) -> Result<(Stmt, &'a [Lexeme]), Refusal>
-    ensures { Gives result (spec.statement script.now strict lexemes.now) }
+    ensures { Gives result (by reading.now spec.statement lexemes.now) }
 {
-    let (stmt, rest) = body(alloc, script, strict, lexemes)?;
+    let (stmt, rest) = body(reading, lexemes)?;
     if sees(rest, Sort::Semicolon) {
         return Ok((stmt, after(rest)));
     }
@@ -28,20 +25,15 @@ pub fn statement<'a>(
 
 // A statement without its semicolon.
 #[tactic(auto, unfolding(crate::specs::StatementReader::body))]
-fn body<'a>(
-    alloc: Global,
-    script: &[u8],
-    strict: bool,
-    lexemes: &'a [Lexeme],
-) -> Result<(Stmt, &'a [Lexeme]), Refusal>
-    ensures { Gives result (spec.body script.now strict lexemes.now) }
+fn body<'a>(reading: &Reading<'_>, lexemes: &'a [Lexeme]) -> Result<(Stmt, &'a [Lexeme]), Refusal>
+    ensures { Gives result (by reading.now spec.body lexemes.now) }
 {
     let sort = sort_at(lexemes);
     if begins_change(sort) {
-        return change(alloc, script, strict, lexemes);
+        return change(reading, lexemes);
     }
     if begins_file_statement(sort) {
-        return file_statement(alloc, script, lexemes);
+        return file_statement(reading, lexemes);
     }
-    answer(alloc, script, strict, lexemes)
+    answer(reading, lexemes)
 }

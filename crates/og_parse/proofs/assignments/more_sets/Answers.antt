@@ -1,22 +1,22 @@
 use Rattle.std.proofs.Common.{rules}
 use Rattle.std.proofs.lemmas.Result.{err_from_is_err_and}
 use Rattle.og_syntax.specs.declared.lexeme.Sort.TheVariants as k
-use Rattle.og_syntax.specs.Reading.{past}
+use Rattle.og_syntax.specs.Reading.{by, is_strict, past}
 use Rattle.og_parse.specs.StatementReader.{set}
 use Rattle.og_syntax.proofs.Loops.{after_sort, smaller_past, one_more_past, all_read, not_read_past}
 use Rattle.og_parse.proofs.StatementRules.{set_part}
 use Rattle.og_parse.proofs.assignments.more_sets.Goals as goal
 
 pub more-smaller : goal.more-smaller
-more-smaller c = smaller_past k.Comma (set c.args.script.now c.args.strict) (set_part c.args.script.now c.args.strict) c.more.rest.now c.after.result.now c.in_ok-part.left.now c.in_ok-part.part (search rules) c.after.ensures c.in_ok-part.ensures
+more-smaller c = smaller_past k.Comma (by c.args.reading.now set) (set_part c.args.reading.now.script.now (is_strict c.args.reading.now.literals)) c.more.rest.now c.after.result.now c.in_ok-part.left.now c.in_ok-part.part (search rules) c.after.ensures c.in_ok-part.ensures
 
 pub more-preserved : goal.more-preserved
-more-preserved c = one_more_past k.Comma (set c.args.script.now c.args.strict) (set_part c.args.script.now c.args.strict) c.more.parts _ c.more.rest.now c.after.result.now c.in_ok-part.left.now c.in_ok-part.part _ (search rules) (search rules) c.after.ensures c.in_ok-part.ensures c.more.invariant
+more-preserved c = one_more_past k.Comma (by c.args.reading.now set) (set_part c.args.reading.now.script.now (is_strict c.args.reading.now.literals)) c.more.parts _ c.more.rest.now c.after.result.now c.in_ok-part.left.now c.in_ok-part.part _ (search rules) (search rules) c.after.ensures c.in_ok-part.ensures c.more.invariant
 
 pub returns : goal.returns
-returns c = all_read (after_sort k.Comma) (past k.Comma (set c.args.script.now c.args.strict)) c.more.parts c.more.rest.now _ (search rules) c.more.invariant
+returns c = all_read (after_sort k.Comma) (past k.Comma (by c.args.reading.now set)) c.more.parts c.more.rest.now _ (search rules) c.more.invariant
 
 pub returns-in_err-part : goal.returns-in_err-part
 returns-in_err-part c =
     let q = err_from_is_err_and c.from_residual.result c.from_residual.ensures.1 in
-    rw (q.1, q.2) (not_read_past k.Comma (set c.args.script.now c.args.strict) (set_part c.args.script.now c.args.strict) c.more.parts c.more.rest.now c.after.result.now _ c.in_err-part.field-0.0 (search rules) c.after.ensures c.more.invariant c.in_err-part.ensures)
+    rw (q.1, q.2) (not_read_past k.Comma (by c.args.reading.now set) (set_part c.args.reading.now.script.now (is_strict c.args.reading.now.literals)) c.more.parts c.more.rest.now c.after.result.now _ c.in_err-part.field-0.0 (search rules) c.after.ensures c.more.invariant c.in_err-part.ensures)

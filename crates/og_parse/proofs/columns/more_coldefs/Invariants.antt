@@ -6,7 +6,7 @@ use Rattle.og_parse.specs.StatementReader.{coldef}
 use Rattle.og_parse.proofs.columns.more_coldefs.Given as goal
 
 abbrev pub invariant-more : goal.invariant-more
-invariant-more l = with_front l.parts (more (is k.Comma) (past k.Comma (coldef l.script)) l.rest) ≡ with_front l.fn.parts (more (is k.Comma) (past k.Comma (coldef l.script)) l.lexemes)
+invariant-more l = with_front l.parts (more (is k.Comma) (past k.Comma (coldef l.reading.script.now)) l.rest) ≡ with_front l.fn.parts (more (is k.Comma) (past k.Comma (coldef l.reading.script.now)) l.lexemes)
 
 abbrev pub decreases-more : goal.decreases-more
 decreases-more l = length l.rest
