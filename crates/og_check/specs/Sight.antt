@@ -1,10 +1,11 @@
 -- The columns that an expression sees.
-use Rattle.std.specs.Prelude.{◌+◌, ◌++◌, ℕ, Bool, true, List, [], ◌∷◌, Option, Some, None, Err, length, codes, if◌then◌else◌}
+use Rattle.std.specs.Prelude.{◌+◌, ◌≤◌, ◌++◌, ℕ, Bool, true, List, [], ◌∷◌, Option, Some, None, Err, length, codes, if◌then◌else◌}
 use Rattle.std.specs.List.{flat_map}
 use Rattle.std.specs.Str.{bytes_eq}
 use Rattle.og_value.specs.declared.kind.Kind.{Kind}
 use Rattle.og_value.specs.declared.schema.Column.{Column}
 use Rattle.og_check.specs.declared.refusal.CheckRefusal.TheVariants as r
+use Rattle.og_check.specs.Limits.{max_tables}
 use Rattle.og_check.specs.Steps.{Checked, pure}
 
 -- an item of FROM: its alias and its columns
@@ -15,6 +16,11 @@ Item = List ℕ × List Column
 pub record Sight : Type 0 where
   pub core : List Item
   pub sub : List Item
+
+-- no more items than may stand, in each of the two
+pub record IsSight (sight : Sight) : Type 0 where
+  pub core : length sight.core ≤ max_tables
+  pub sub : length sight.sub ≤ max_tables
 
 -- a column that was found: its place in the row, and its kind
 abbrev pub Found : Type 0

@@ -1,7 +1,9 @@
 //! The column that c or q.c stands for.
-ghost use Rattle.std.specs.Prelude.{◌≡◌, ◌+◌, ◌<◌, ◌^◌, ◌++◌, ◌∷◌, [], length, Some, if◌then◌else◌};
+ghost use Rattle.std.specs.Prelude.{◌≡◌, ◌+◌, ◌*◌, ◌<◌, ◌≤◌, ◌^◌, ◌++◌, ◌∷◌, [], length, Some, if◌then◌else◌};
 ghost use Rattle.std.specs.Str.{bytes_eq};
+ghost use Rattle.og_value.specs.Limits.{max_columns};
 ghost use Rattle.og_check.specs.Hits.{hits_of, with_found};
+ghost use Rattle.og_check.specs.Limits.{max_tables};
 ghost use Rattle.og_check.specs.Results.{Gives};
 ghost use Rattle.og_check.specs.Sight as spec;
 ghost use Rattle.og_check.specs.Sight.{looks_at, among, joined};
@@ -23,7 +25,7 @@ pub fn found(
 ) -> Result<(usize, Kind), CheckRefusal>
     ensures { Gives result (spec.found sight.now table.now name.now) }
 {
-    let hits = candidates(sight, table, name)?;
+    let hits = candidates(sight, table, name);
     if let Hits::One { place, kind } = hits {
         return Ok((place, kind));
     }
@@ -64,51 +66,51 @@ fn text_of(alloc: Global, string: &str) -> Result<Text, CheckRefusal>
 }
 
 // The columns that c or q.c may stand for.
-fn candidates(sight: &Sight, table: &Option<Name>, name: &Name) -> Result<Hits, CheckRefusal>
-    ensures { Gives result (pure (hits_of (spec.candidates sight.now table.now name.now))) }
+fn candidates(sight: &Sight, table: &Option<Name>, name: &Name) -> Hits
+    ensures { result ≡ hits_of (spec.candidates sight.now table.now name.now) }
 {
-    let (in_core, end) = among(table, name, 0, sight.core())?;
-    let (in_sub, _) = among(table, name, end, sight.sub())?;
-    Ok(or_hits(in_sub, in_core))
+    let (in_core, end) = among(table, name, 0, sight.core);
+    let (in_sub, _) = among(table, name, end, sight.sub);
+    or_hits(in_sub, in_core)
 }
 
 // The columns that c or q.c may stand for among the items, whose first column has that place, and
-// the place after their last column.
-fn among(
-    table: &Option<Name>,
-    name: &Name,
-    start: usize,
-    items: &[Item],
-) -> Result<(Hits, usize), CheckRefusal>
-    ensures { Gives result (pure (hits_of (among table.now name.now start items.now), start + length (joined items.now))) }
+// the place after their last column. Items are few, and so are their columns, so each has a place.
+fn among(table: &Option<Name>, name: &Name, start: usize, items: &[Item]) -> (Hits, usize)
+    requires near { start ≤ max_columns * max_tables }
+    requires few { length items.now ≤ max_tables }
+    ensures hits { result.0 ≡ hits_of (among table.now name.now start items.now) }
+    ensures end { result.1 ≡ start + length (joined items.now) }
+    ensures near { result.1 ≤ start + max_columns * length items.now }
 {
     let mut hits = Hits::Nothing;
     let mut place = start;
     'items: for item in items {
-        (hits, place) = item_hits(hits, table, name, place, item)?;
+        (hits, place) = item_hits(hits, table, name, place, item);
     }
-    Ok((hits, place))
+    (hits, place)
 }
 
-// With those of the item, whose first column has that place, and the place after its last column. A
-// row that has no such place has no memory either.
+// With those of the item, whose first column has that place, and the place after its last column.
 fn item_hits(
     hits: Hits,
     table: &Option<Name>,
     name: &Name,
     place: usize,
     item: &Item,
-) -> Result<(Hits, usize), CheckRefusal>
-    ensures { Gives result (pure (with_found hits (if looks_at table.now item.now then spec.named name.now place item.now.1 else []), place + length item.now.1)) }
+) -> (Hits, usize)
+    requires { place + max_columns < 2 ^ 64 }
+    ensures hits { result.0 ≡ with_found hits (if looks_at table.now item.now then spec.named name.now place item.now.1 else []) }
+    ensures end { result.1 ≡ place + length item.now.1 }
+    ensures near { result.1 ≤ place + max_columns }
 {
     let columns = item.columns();
-    let Some(end) = place.checked_add(columns.len()) else {
-        return Err(CheckRefusal::NoMemory);
-    };
+    columns.bounded();
+    let end = place + columns.len();
     if looks_at(table, item) {
-        Ok((more_named(hits, name, place, columns), end))
+        (more_named(hits, name, place, columns), end)
     } else {
-        Ok((hits, end))
+        (hits, end)
     }
 }
 

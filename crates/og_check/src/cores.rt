@@ -1,9 +1,10 @@
 //! The checks of a SELECT.
-ghost use Rattle.std.specs.Prelude.{◌≡◌, ◌++◌, ◌∷◌, [], codes, length};
+ghost use Rattle.std.specs.Prelude.{◌≡◌, ◌≤◌, ◌++◌, ◌∷◌, [], codes, length};
 ghost use Rattle.std.specs.Fmt.{decimal};
 ghost use Rattle.og_check.specs.Cores as spec;
 ghost use Rattle.og_check.specs.Cores.{star_from};
 ghost use Rattle.og_check.specs.Fronts.{parted, with_fronts, with_pair};
+ghost use Rattle.og_check.specs.Limits.{max_tables};
 ghost use Rattle.og_check.specs.Names.{schemas_in};
 ghost use Rattle.og_check.specs.Results.{Gives, wrote};
 ghost use Rattle.og_check.specs.Selects.{after_from, core_in, shown_of};
@@ -74,6 +75,7 @@ fn selected_of<C: Catalog>(
     core: &CoreText,
     from: &mut Joined,
 ) -> Result<Selected, CheckRefusal>
+    requires { length from.old.items ≤ max_tables }
     ensures { Gives (core_in from.new result) (after_from (schemas_in names (C.known known.now)) core.now (from_in from.old)) }
 {
     add_cond(
@@ -104,6 +106,7 @@ fn shown_of(
     items: &[Item],
     list: &ItemsText,
 ) -> Result<(Items<Expr>, Schema), CheckRefusal>
+    requires { length items.now ≤ max_tables }
     ensures { Gives result (shown_of items.now list.now) }
 {
     let shown = items_of(alloc, items, list)?;
@@ -118,6 +121,7 @@ fn shown_of(
 
 // The items of SELECT, of which * gives all columns.
 fn items_of(alloc: Global, items: &[Item], list: &ItemsText) -> Result<Shown, CheckRefusal>
+    requires { length items.now ≤ max_tables }
     ensures { Gives (shown result) (parted (spec.items_of items.now list.now)) }
 {
     match list {

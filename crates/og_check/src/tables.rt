@@ -1,8 +1,9 @@
 //! The checks of FROM, and of EXISTS and NOT EXISTS.
-ghost use Rattle.std.specs.Prelude.{◌≡◌, map, IfOk};
+ghost use Rattle.std.specs.Prelude.{◌≡◌, ◌+◌, ◌<◌, ◌≤◌, length, map, IfOk, OnOk};
 ghost use Rattle.std.specs.List.{list_any};
 ghost use Rattle.std.specs.Str.{bytes_eq};
 ghost use Rattle.og_check.specs.Cores as spec;
+ghost use Rattle.og_check.specs.Limits.{max_tables};
 ghost use Rattle.og_check.specs.Names.{schemas_in};
 ghost use Rattle.og_check.specs.Results.{Gives, wrote};
 ghost use Rattle.og_check.specs.Shown.{from_given, from_in};
@@ -34,7 +35,9 @@ pub fn from_of<'a, C: Catalog>(
     names: Names,
     tables: &'a [FromText],
 ) -> Result<Joined<'a>, CheckRefusal>
-    ensures { Gives (from_given result) (spec.from_of (schemas_in names (C.known known.now)) tables.now) }
+    requires { length tables.now ≤ max_tables }
+    ensures from { Gives (from_given result) (spec.from_of (schemas_in names (C.known known.now)) tables.now) }
+    ensures few { IfOk result (λ from. length from.items ≤ max_tables) }
 {
     let mut from = Joined {
         items: Items::new(alloc),
@@ -55,7 +58,9 @@ fn add_table<'a, C: Catalog>(
     table: &'a FromText,
     from: &mut Joined<'a>,
 ) -> Result<(), CheckRefusal>
-    ensures { Gives (wrote (from_in from.new) result) (spec.with_table (schemas_in names (C.known known.now)) (from_in from.old) table.now) }
+    requires { length from.old.items < max_tables }
+    ensures from { Gives (wrote (from_in from.new) result) (spec.with_table (schemas_in names (C.known known.now)) (from_in from.old) table.now) }
+    ensures one { OnOk result (length from.new.items ≡ length from.old.items + 1) }
 {
     let columns = known_columns(known, names, &table.name)?;
     let alias = alias_of(&table.name, &table.alias);
@@ -107,6 +112,7 @@ pub fn semis_of<C: Catalog>(
     items: &[Item],
     semis: &[SemiText],
 ) -> Result<Items<Semi>, CheckRefusal>
+    requires { length items.now ≤ max_tables }
     ensures { Gives result (in_order (map (spec.semi_of (schemas_in names (C.known known.now)) items.now) semis.now)) }
 {
     let mut typed = Items::new(alloc);
@@ -124,6 +130,7 @@ fn semi_of<C: Catalog>(
     items: &[Item],
     semi: &SemiText,
 ) -> Result<Semi, CheckRefusal>
+    requires { length items.now ≤ max_tables }
     ensures { Gives result (spec.semi_of (schemas_in names (C.known known.now)) items.now semi.now) }
 {
     let columns = known_columns(known, names, &semi.name)?;
