@@ -2,6 +2,7 @@ pub mod CoreFits
 pub mod ExpressionFits
 pub mod ExpressionRules
 pub mod FaultLemmas
+pub mod FoundColumns
 pub mod GivesLemmas
 pub mod HitLemmas
 pub mod NumberLemmas

@@ -1,3 +1,4 @@
+pub mod Columns
 pub mod Cores
 pub mod Expressions
 pub mod Fronts

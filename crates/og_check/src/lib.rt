@@ -6,7 +6,8 @@
 //! same of a statement that is not used again, and copies no row. Both look at what a `Catalog`
 //! tells of names and columns, and at no row of a table. `checked_fits` says that a statement
 //! without a fault fits the names and kinds that it names (`IsFit` of og_query), which og_db asks
-//! for, and `faults_are_told` that want of memory is no fault of a statement.
+//! for, `found_columns` which column a name in an expression stands for (specs/Columns.antt), and
+//! `faults_are_told` that want of memory is no fault of a statement.
 //!
 //! No tests here: scripts reach it, so the cases test it (docs/CASES.md).
 #![tactic(auto)]
@@ -28,6 +29,6 @@ mod sight;
 mod tables;
 
 pub use checker::{check, check_owned};
-pub use laws::{checked_fits, faults_are_told};
+pub use laws::{checked_fits, faults_are_told, found_columns};
 pub use limits::MAX_TABLES;
 pub use refusal::CheckRefusal;
