@@ -4,3 +4,4 @@ pub mod LongestLemmas
 pub mod PutLemmas
 pub mod RangeLemmas
 pub mod RecordLemmas
+pub mod SightLemmas

@@ -90,11 +90,7 @@ pub record ArePutUpTo (old now : Option (List ℕ)) (all rest : List Fixed) : Ty
 pub none_put : (old : Option (List ℕ)) (all : List Fixed) → ArePutUpTo old old all all
 none_put old all = record { before = []; whole = refl; written = subst (Appends old old) (sym records-none) (Appends-nil old) }
 
-module _ (old mid new : Option (List ℕ)) (all rest block later : List Fixed) (n : ℕ) (front : block ≡ take n rest) (back : later ≡ drop n rest) (up : ArePutUpTo old mid all rest) where
-  -- the rest is the block and what is later
-  parts : rest ≡ block ++ later
-  parts = sym (take-append-drop n rest) ∙ sym (ap₂ (λ xs ys. xs ++ ys) front back)
-
+module _ (old mid new : Option (List ℕ)) (all rest block later : List Fixed) (parts : rest ≡ block ++ later) (up : ArePutUpTo old mid all rest) where
   -- one more block
   pub block_put : Appends mid new (rows_text block) → ArePutUpTo old new all later
   block_put put = record {
@@ -108,6 +104,10 @@ module _ (old mid new : Option (List ℕ)) (all rest block later : List Fixed) (
   block_refused refusal put =
       put_after old mid new (rows_text up.before) (rows_text rest) (rows_text all) (Err refusal) (ap rows_text up.whole ∙ rows_text-append up.before rest) up.written
       (put_within mid new (rows_text block) (rows_text later) (rows_text rest) refusal (ap rows_text parts ∙ rows_text-append block later) put)
+
+-- where no row is left, all were put
+pub all_put : (old now : Option (List ℕ)) (all rest : List Fixed) → rest ≡ [] → ArePutUpTo old now all rest → Appends old now (rows_text all)
+all_put old now all rest none up = subst (λ rows. Appends old now (rows_text rows)) (sym (up.whole ∙ ap (λ r. up.before ++ r) none ∙ append-nil up.before)) up.written
 
 -- a list of which each has a text, put one after the other: those before this one were put
 module _ {A : Type 0} (text : A → List ℕ) (old mid new : Option (List ℕ)) (xs : List A) (i : ℕ) (x : A) (within : i < length xs) (is : x ≡ get_or xs i x)

@@ -5,14 +5,17 @@ ghost use Rattle.std.specs.List.{flat_map};
 use crate::rows::rows_text;
 use og_base::NoMemory;
 use og_par::Piece;
-use og_value::FixedRow;
+use og_value::Sight;
 use std::alloc::Global;
 
 /// How many rows a block has; the last one may have fewer.
 pub const BLOCK: usize = 1024;
 
 /// The rows cut into blocks.
-pub fn blocks_of<'a>(alloc: Global, rows: &'a [FixedRow]) -> Result<Vec<&'a [FixedRow]>, NoMemory>
+pub fn blocks_of<'a, 'r>(
+    alloc: Global,
+    rows: &'a [Sight<'r>],
+) -> Result<Vec<&'a [Sight<'r>]>, NoMemory>
     ensures { IfOk result (λ v. flat_map (λ b. b.now) v.items ≡ rows.now) }
 {
     // Room for all at once: `collect` asks for less where that is refused, and does not tell.
@@ -25,7 +28,7 @@ pub fn blocks_of<'a>(alloc: Global, rows: &'a [FixedRow]) -> Result<Vec<&'a [Fix
 #[derive(Clone, Copy, Debug)]
 pub struct BlockText;
 
-impl<'a> Piece<&'a [FixedRow]> for BlockText {
+impl<'a, 'r> Piece<&'a [Sight<'r>]> for BlockText {
     ghost use Rattle.std.specs.Prelude.{◌≡◌, map};
     ghost use Rattle.std.specs.List.{flat_map};
     ghost use Rattle.og_value.specs.Cells.{fixed_text};
@@ -38,7 +41,7 @@ impl<'a> Piece<&'a [FixedRow]> for BlockText {
     fn make(
         &self,
         alloc: Global,
-        item: &&'a [FixedRow],
+        item: &&'a [Sight<'r>],
         out: &mut Vec<Vec<u8>>,
     ) -> Result<(), NoMemory> {
         let text = rows_text(alloc, *item)?;

@@ -17,6 +17,7 @@ mod puts;
 mod range;
 mod records;
 mod rows;
+mod sights;
 
 pub use puts::{put, put_fault, put_plan, put_relation};
 pub use range::layout_range;

@@ -16,6 +16,7 @@ ghost use Rattle.og_output.specs.Records.{layout, records};
 
 use crate::blocks::{BLOCK, BlockText, blocks_of};
 use crate::records::header_text;
+use crate::sights::sights_of;
 use og_base::RefDay;
 use og_faults::Fault;
 use og_io::{PutRefusal, Sink};
@@ -23,7 +24,7 @@ use og_par::{Gate, par_rows};
 use og_plan::{PlanLine, fitting_queries, plan_lines, plan_of};
 use og_query::Query;
 use og_rel::Rel;
-use og_value::{FixedRow, Row, Schema, order_of_rows};
+use og_value::{Row, Schema, Sight};
 use std::alloc::Global;
 use std::thread::Threads;
 
@@ -59,8 +60,8 @@ pub fn put_relation<H: Threads + Sync, K: Sink, G: Gate + Sync>(
     ensures put { IsPut (K.written out.old) (K.written out.new) (layout columns.now (relation_at row_order row_at rel.now day)) result }
     ensures counted { IsFaultCount (is_unput result) (K.faults out.old) (K.faults out.new) }
 {
-    order_of_rows();
-    let rows = rel.at_workers(rt, workers, day, gate)?;
+    gate.enter(0);
+    let rows = sights_of(alloc, rel, day)?;
     put_layout(rt, alloc, workers, gate, columns, rows.as_slice(), out)
 }
 
@@ -71,7 +72,7 @@ fn put_layout<H: Threads + Sync, K: Sink, G: Gate + Sync>(
     workers: usize,
     gate: &G,
     columns: &Schema,
-    rows: &[FixedRow],
+    rows: &[Sight],
     out: &mut K,
 ) -> Result<(), PutRefusal>
     requires least { 1 ≤ workers }
@@ -90,7 +91,7 @@ fn put_rows<H: Threads + Sync, K: Sink, G: Gate + Sync>(
     alloc: Global,
     workers: usize,
     gate: &G,
-    rows: &[FixedRow],
+    rows: &[Sight],
     out: &mut K,
 ) -> Result<(), PutRefusal>
     requires least { 1 ≤ workers }
@@ -99,11 +100,11 @@ fn put_rows<H: Threads + Sync, K: Sink, G: Gate + Sync>(
     ensures counted { IsFaultCount (is_unput result) (K.faults out.old) (K.faults out.new) }
 {
     let round = if workers == 1 { BLOCK } else { workers * SHARE };
-    let mut rest = rows;
-    'cuts: while !rest.is_empty() {
-        let (first, later) = rest.split_at(rest.len().min(round));
-        put_round(rt, alloc, workers, gate, first, out)?;
-        rest = later;
+    let mut next = 0;
+    'rounds: while next < rows.len() {
+        let end = next + (rows.len() - next).min(round);
+        put_round(rt, alloc, workers, gate, &rows[next..end], out)?;
+        next = end;
     }
     Ok(())
 }
@@ -114,7 +115,7 @@ fn put_round<H: Threads + Sync, K: Sink, G: Gate + Sync>(
     alloc: Global,
     workers: usize,
     gate: &G,
-    rows: &[FixedRow],
+    rows: &[Sight],
     out: &mut K,
 ) -> Result<(), PutRefusal>
     requires least { 1 ≤ workers }

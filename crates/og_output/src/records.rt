@@ -3,14 +3,12 @@ ghost use Rattle.std.specs.Prelude.{◌≡◌, ◌++◌, ◌∷◌, [], IfOk, On
 ghost use Rattle.csv.specs.Writing.{default_writer, row_text};
 ghost use Rattle.og_base.specs.Calendar.{day_text};
 ghost use Rattle.og_base.specs.SetTexts.{lower_text};
-ghost use Rattle.og_value.specs.Cells.{fixed_text};
 ghost use Rattle.og_output.specs.Records.{names_text, range_records, records, what_word};
 
 use crate::fields::{end_record, push_field};
-use crate::rows::push_row;
-use og_base::{DayRange, ExtDay, NoMemory, RefDay};
+use og_base::{DayRange, ExtDay, NoMemory, RefDay, write_day};
 use og_db::Db;
-use og_value::{Catalog, FixedRow, FixedValue, Schema, What};
+use og_value::{Catalog, Schema, What};
 use std::alloc::Global;
 
 /// The record of the columns' names, with which a PRINT begins.
@@ -46,21 +44,35 @@ pub fn names_text(alloc: Global, db: &Db) -> Result<Vec<u8>, NoMemory>
 pub fn range_text(alloc: Global, range: DayRange) -> Result<Vec<u8>, NoMemory>
     ensures { IfOk result (λ v. v.items ≡ range_records range) }
 {
-    let ends = range_row(alloc, range)?;
+    let first = lower_end_text(alloc, range)?;
+    let last = upper_end_text(alloc, range)?;
     let mut text = Vec::new(alloc);
     push_two(b"from", b"to", &mut text)?;
-    push_row(&ends, &mut text)?;
+    push_two(first.as_slice(), last.as_slice(), &mut text)?;
     Ok(text)
 }
 
-// The row of the two ends of a range.
-fn range_row(alloc: Global, range: DayRange) -> Result<FixedRow, NoMemory>
-    ensures { IfOk result (λ row. map fixed_text row ≡ lower_text range.lo ∷ day_text range.hi ∷ []) }
+// The text of the lower end of the range.
+fn lower_end_text(alloc: Global, range: DayRange) -> Result<Vec<u8>, NoMemory>
+    ensures { IfOk result (λ v. v.items ≡ lower_text range.lo) }
 {
-    let mut ends = Vec::with_capacity(alloc, 2)?;
-    ends.push(FixedValue::Date(lower_end(range.lo)))?;
-    ends.push(FixedValue::Date(range.hi))?;
-    Ok(FixedRow::of(ends))
+    text_of_day(alloc, lower_end(range.lo))
+}
+
+// The text of its upper end.
+fn upper_end_text(alloc: Global, range: DayRange) -> Result<Vec<u8>, NoMemory>
+    ensures { IfOk result (λ v. v.items ≡ day_text range.hi) }
+{
+    text_of_day(alloc, range.hi)
+}
+
+// The text of the day.
+fn text_of_day(alloc: Global, day: ExtDay) -> Result<Vec<u8>, NoMemory>
+    ensures { IfOk result (λ v. v.items ≡ day_text day) }
+{
+    let mut text = Vec::new(alloc);
+    write_day(day, &mut text)?;
+    Ok(text)
 }
 
 // The day of which the text is that of the lower end: no range begins before the first day.

@@ -5,45 +5,47 @@ ghost use Rattle.csv.specs.Writing.{default_writer, field_text, row_text};
 ghost use Rattle.og_base.specs.Calendar.{day_text};
 ghost use Rattle.og_time.specs.Period.{bracketed};
 ghost use Rattle.og_value.specs.Cells.{fixed_text};
+ghost use Rattle.og_value.specs.Values.{row_at, value_at};
 ghost use Rattle.og_output.specs.Records.{records};
 
 use crate::fields::{end_record, push_bytes, push_separator};
-use og_base::{ExtDay, FixedPeriod, NoMemory, one_text_a_day, write_day};
-use og_value::{FixedRow, FixedValue, write_fixed};
+use og_base::{ExtDay, FixedPeriod, NoMemory, RefDay, one_text_a_day, write_day};
+use og_value::{FixedValue, Row, Sight, Value, write_fixed};
 use std::alloc::Global;
 
 /// The records of the texts of each row's values, as a PRINT writes them.
-pub fn rows_text(alloc: Global, rows: &[FixedRow]) -> Result<Vec<u8>, NoMemory>
+pub fn rows_text(alloc: Global, rows: &[Sight]) -> Result<Vec<u8>, NoMemory>
     ensures { IfOk result (λ v. v.items ≡ records (map (map fixed_text) rows.now)) }
 {
     let mut text = Vec::new(alloc);
     'rows: for row in rows {
-        push_row(row, &mut text)?;
+        let (values, day) = row.parts();
+        push_row(values, day, &mut text)?;
     }
     Ok(text)
 }
 
-/// Adds the record of the texts of the row's values.
-pub(crate) fn push_row(row: &FixedRow, out: &mut Vec<u8>) -> Result<(), NoMemory>
-    ensures { OnOk result (out.new.items ≡ out.old.items ++ row_text default_writer (map fixed_text row.now)) }
+// Adds the record of the texts of the row's values on the day.
+fn push_row(row: &Row, day: RefDay, out: &mut Vec<u8>) -> Result<(), NoMemory>
+    ensures { OnOk result (out.new.items ≡ out.old.items ++ row_text default_writer (map fixed_text (row_at row.now day))) }
 {
     let start = out.len();
     'values: for i in 0..row.len() {
         push_separator(i, out)?;
-        push_value(row.value(i), out)?;
+        push_value(row.value(i), day, out)?;
     }
     end_record(start, out)
 }
 
-// Adds the text of the value as a field.
-fn push_value(value: &FixedValue, out: &mut Vec<u8>) -> Result<(), NoMemory>
-    ensures { OnOk result (out.new.items ≡ out.old.items ++ field_text default_writer (fixed_text value.now)) }
+// Adds the text of the value on the day as a field.
+fn push_value(value: &Value, day: RefDay, out: &mut Vec<u8>) -> Result<(), NoMemory>
+    ensures { OnOk result (out.new.items ≡ out.old.items ++ field_text default_writer (fixed_text (value_at value.now day))) }
 {
     match value {
-        FixedValue::Int(number) => push_number(*number, out),
-        FixedValue::Text(text) => push_bytes(text.bytes(), out),
-        FixedValue::Date(day) => push_day(*day, out),
-        FixedValue::Period(period) => push_period(*period, out),
+        Value::Int(number) => push_number(*number, out),
+        Value::Text(text) => push_bytes(text.bytes(), out),
+        Value::Point(point) => push_day(point.at(day), out),
+        Value::Period(period) => push_period(period.at(day), out),
     }
 }
 

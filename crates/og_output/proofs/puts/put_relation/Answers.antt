@@ -1,8 +1,5 @@
-use Rattle.std.proofs.Common.{◌≡◌, ap, ◌∙◌, subst}
+use Rattle.std.proofs.Common.{ap, ◌∙◌, subst}
 use Rattle.std.proofs.lemmas.Result.{err_from_is_err_and}
-use Rattle.og_value.specs.Order.{row_order}
-use Rattle.og_value.specs.Values.{row_at}
-use Rattle.og_rel.specs.Relations.{relation_at}
 use Rattle.og_output.specs.Puts.{IsPut}
 use Rattle.og_output.specs.Records.{layout}
 use Rattle.og_output.proofs.PutLemmas.{none_of}
@@ -15,6 +12,5 @@ returns-in_err-rows-clause-put g c =
 
 pub returns-clause-put : goal.returns-clause-put
 returns-clause-put g c =
-    let rows : c.as_slice.result.now ≡ relation_at row_order row_at c.args.rel.now c.args.day =
-    c.as_slice.ensures.value ∙ c.in_ok-rows.ensures ∙ ap (λ cmp. relation_at cmp row_at c.args.rel.now c.args.day) (λ i x y. c.order_of_rows.ensures.order x y i) in
+    let rows = c.as_slice.ensures.value ∙ c.in_ok-rows.ensures in
     subst (λ t. IsPut (g.K.Sink.written c.args.out.now) (g.K.Sink.written c.put_layout.new.out) t c.put_layout.result) (ap (layout c.args.columns.now) rows) c.put_layout.ensures.put
