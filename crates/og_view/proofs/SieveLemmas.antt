@@ -1,5 +1,5 @@
--- Rows that pass tests: that no day changes it, what a relation has of them on a day, and what some keys more make of it.
-use Rattle.std.proofs.Common.{◌≡◌, ◌≢◌, ◌++◌, ◌+◌, ◌&&◌, Contains, ℕ, ℤ, zero, suc, pos, Bool, true, false, not, List, [], ◌∷◌, length, filter, get_or, slice_get, slice_index_or, take, ◌<◌, Option, Some, None, Ordering, Less, Equal, Greater, ◌≤◌, ◌||◌, refl, sym, ap, ap₂, ◌∙◌, arith}
+-- Rows that pass tests: that no day changes it, what a relation has of them on a day, what some keys more make of it, and what bounds of keys tell.
+use Rattle.std.proofs.Common.{◌≡◌, ◌≢◌, ◌++◌, ◌+◌, ◌&&◌, Contains, ℕ, ℤ, zero, suc, pos, Bool, true, false, true≢false, not, List, [], ◌∷◌, length, filter, get_or, slice_get, slice_index_or, take, ◌<◌, Option, Some, None, Ordering, Less, Equal, Greater, ◌≤◌, ◌||◌, refl, sym, ap, ap₂, ◌∙◌, arith}
 use Rattle.std.specs.List.{All, list_all, list_any}
 use Rattle.std.proofs.lemmas.List.{length-take-le, take_more}
 use Rattle.std.proofs.lemmas.List.Elements.{All-cons, All-contains, All-get_or, All-nil, filter-append}
@@ -25,8 +25,11 @@ use Rattle.og_query.specs.Queries.{Fixed}
 use Rattle.og_query.proofs.QueryLemmas.{rows_ordered}
 use Rattle.og_plan.specs.Meaning.{column}
 use Rattle.og_exec.specs.Tables.{Relation, rows_on}
+use Rattle.og_view.specs.Numbers.{AreBetween}
+use Rattle.og_view.specs.RangeTests.{is_within}
 use Rattle.og_view.specs.Sieves.{Keys, Test, is_among, meets, passes, row_meets, row_passes, sifted, tests_from}
 use Rattle.og_view.proofs.NarrowedLemmas.{and_swap, first_of, second_of}
+use Rattle.og_view.proofs.NumberLemmas.{not_between}
 use Rattle.og_view.proofs.PlacedLemmas.{and_nothing, nothing_and, one_across}
 
 -- what is among keys on one day is on another
@@ -43,10 +46,10 @@ column-on_day keys d e (v ∷ row) zero = among-on_day keys d e v
 column-on_day keys d e (v ∷ row) (suc place) = column-on_day keys d e row place
 
 -- beyond a row there stands no value
-pub column-beyond : (row : List Value) (place : ℕ) (d : ℤ) → length row ≤ place → column (row_at row d) place ≡ no_value
-column-beyond [] place d l = refl
-column-beyond (v ∷ row) zero d l = absurd (omega (arith, l))
-column-beyond (v ∷ row) (suc place) d l = column-beyond row place d (omega (arith, l))
+pub column-beyond : (row : List Value) (place : ℕ) (d : ℤ) → slice_get row place ≡ None → column (row_at row d) place ≡ no_value
+column-beyond [] place d none = refl
+column-beyond (v ∷ row) zero d none = cc none
+column-beyond (v ∷ row) (suc place) d none = column-beyond row place d none
 
 -- and in it what its value is on the day
 pub column-within : (row : List Value) (place : ℕ) (d : ℤ) (v : Value) → slice_get row place ≡ Some v → column (row_at row d) place ≡ value_at v d
@@ -194,3 +197,15 @@ row_passes-push columns keys row all one =
     ap (list_all (row_meets row)) (tests_from-push 0 columns keys ∙ ap (λ n. tests_from 0 columns ++ (n, keys) ∷ []) (nothing_and (length columns)))
     ∙ list_all-append (row_meets row) (tests_from 0 columns) ((length columns, keys) ∷ [])
     ∙ ap₂ (λ a b. a && (b && true)) all one
+
+-- a row of which what stands in a column is no number between bounds of keys does not meet the test of the column
+pub range_tells : (keys : Keys) (least greatest : ℤ) (place : ℕ) (row : List Value) → AreBetween least greatest keys.0
+    → is_within least greatest (slice_get row place) ≡ false → row_meets row (place, keys) ≡ false
+range_tells keys least greatest place row all out = at (slice_get row place) refl out
+  where
+    at : (o : Option Value) → slice_get row place ≡ o → is_within least greatest o ≡ false → row_meets row (place, keys) ≡ false
+    at (Some (Int n)) is none = ap (is_among keys) (column-within row place (pos 0) (Int n) is) ∙ not_between least greatest n keys.0 all none
+    at (Some (Text t)) is none = absurd (true≢false none)
+    at (Some (Point p)) is none = absurd (true≢false none)
+    at (Some (Period p)) is none = absurd (true≢false none)
+    at None is none = absurd (true≢false none)

@@ -4,6 +4,7 @@ pub mod Numbers
 pub mod Parts
 pub mod Placed
 pub mod Plans
+pub mod RangeTests
 pub mod Rows
 pub mod Sieves
 pub mod Views

@@ -48,7 +48,7 @@ fn of_columns<'k>(alloc: Global, sieve: &Sieve<'k>, items: &[Expr]) -> Result<Si
     'tests: for test in sieve.tests.as_slice() {
         add_test(&mut tests, column_handed(items, test.column), test.keys)?;
     }
-    Ok(Sieve { tests })
+    Ok(Sieve::new(tests))
 }
 
 // The part of the table at a place that rows which pass the sieve can be made of.

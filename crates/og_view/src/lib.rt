@@ -25,6 +25,7 @@ mod numbers;
 mod part;
 mod placed;
 mod put;
+mod range_test;
 mod rows;
 mod same;
 mod sieve;

@@ -3,7 +3,9 @@ ghost use Rattle.std.specs.Prelude.{◌≡◌, ◌≤ℤ◌, [], IsTrue, IfOk, O
 ghost use Rattle.std.specs.Ordering.{int_cmp, eq_by_cmp};
 ghost use Rattle.std.specs.List.{list_any};
 ghost use Rattle.std.specs.BTreeSet.{insert_key};
+ghost use Rattle.og_view.specs.Numbers.{AreBetween};
 
+use crate::range_test::RangeTest;
 use og_base::NoMemory;
 use std::alloc::Global;
 use std::collections::BTreeSet;
@@ -56,6 +58,18 @@ impl Numbers {
         ensures { IsTrue result → self.now ≡ [] }
     {
         self.all.is_empty()
+    }
+
+    // The test of a column in which one of these numbers may stand.
+    pub(crate) fn range_in(&self, column: usize) -> RangeTest
+        ensures column { result.column ≡ column }
+        ensures bounds { AreBetween result.least result.greatest self.now }
+    {
+        RangeTest {
+            column,
+            least: self.least,
+            greatest: self.greatest,
+        }
     }
 
     // Whether the number is one of these.

@@ -122,5 +122,5 @@ pub(crate) fn handed<'k>(
             tests.push(Test { column, keys })?;
         }
     }
-    Ok(Sieve { tests })
+    Ok(Sieve::new(tests))
 }

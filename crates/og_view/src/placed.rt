@@ -137,9 +137,7 @@ impl Placed {
                 let tests = Sieve::of(alloc, start, keys)?;
                 shared(&self.core.cond, tables.len(), tests)
             }
-            None => Ok(Sieve {
-                tests: Vec::new(alloc),
-            }),
+            None => Ok(Sieve::new(Vec::new(alloc))),
         }
     }
 

@@ -113,5 +113,5 @@ pub(crate) fn shared<'k>(
     'others: for _ in 0..others {
         share(cond, &mut tests)?;
     }
-    Ok(Sieve { tests })
+    Ok(Sieve::new(tests))
 }

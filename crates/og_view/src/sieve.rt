@@ -1,12 +1,14 @@
 //! Sieves: what stands in the columns of some rows, so that other rows are told from them.
-ghost use Rattle.std.specs.Prelude.{◌≡◌, ◌++◌, ℕ, ℤ, Some, true, [], IsTrue, IfOk, OnOk, filter, length};
+ghost use Rattle.std.specs.Prelude.{◌≡◌, ◌++◌, ◌∷◌, ℕ, ℤ, Some, true, [], IsTrue, IfOk, IfSome, OnOk, filter, length};
 ghost use Rattle.std.specs.List.{All};
 ghost use Rattle.og_value.specs.Values.{value_at};
 ghost use Rattle.og_value.specs.declared.value.FixedValue.{FixedValue};
 ghost use Rattle.og_query.specs.Queries.{Fixed};
+ghost use Rattle.og_view.specs.RangeTests.{Tells};
 ghost use Rattle.og_view.specs.Sieves.{is_among, meets, passes, row_meets, row_passes, tests_from};
 
 use crate::numbers::Numbers;
+use crate::range_test::RangeTest;
 use og_base::NoMemory;
 use og_rel::{Rel, RowTest};
 use og_value::{Row, Text, Value};
@@ -49,10 +51,10 @@ impl Keys {
         ensures added { OnOk result (row_meets row.now (column, self.new) ≡ true) }
         ensures kept { OnOk result ((x : FixedValue) → is_among self.old x ≡ true → is_among self.new x ≡ true) }
     {
-        if column >= row.len() {
-            return self.add(&Value::Int(0));
+        match row.get(column) {
+            Some(value) => self.add(value),
+            None => self.add(&Value::Int(0)),
         }
-        self.add(row.value(column))
     }
 
     // Adds the value, where it is a number or a text.
@@ -81,10 +83,10 @@ impl Keys {
     fn has_at(&self, row: &Row, column: usize) -> bool
         ensures { result ≡ row_meets row.now (column, self.now) }
     {
-        if column >= row.len() {
-            return self.has(&Value::Int(0));
+        match row.get(column) {
+            Some(value) => self.has(value),
+            None => self.has(&Value::Int(0)),
         }
-        self.has(row.value(column))
     }
 
     // Whether the value is among these.
@@ -126,21 +128,53 @@ impl<'k> Model for Test<'k> {
     ghost view = { λ t. (t.column, t.keys.now) };
 }
 
-// Tests of rows, which a row passes where it meets each.
+impl Test<'_> {
+    // The range of the numbers that may stand in the column.
+    fn range(&self) -> RangeTest
+        ensures { Tells result (self.now ∷ []) }
+    {
+        let keys = self.keys;
+        keys.numbers.range_in(self.column)
+    }
+}
+
+// The range of the numbers that may stand in the column of the first of the tests.
+fn first_range(tests: &[Test<'_>]) -> Option<RangeTest>
+    ensures { IfSome result (λ range. Tells range tests.now) }
+{
+    match tests.first() {
+        Some(test) => Some(test.range()),
+        None => None,
+    }
+}
+
+// Tests of rows, which a row passes where it meets each. Most rows are told by the range of the first.
 #[derive(Drop)]
 pub(crate) struct Sieve<'k> {
     pub(crate) tests: Vec<Test<'k>>,
+    first: Option<RangeTest>,
 }
 
 impl<'k> Model for Sieve<'k> {
-    ghost use Rattle.std.specs.Prelude.{ℕ, ℤ, List};
+    ghost use Rattle.std.specs.Prelude.{ℕ, ℤ, List, IfSome};
+    ghost use Rattle.og_view.specs.RangeTests.{Tells};
 
     ghost Value = { List (ℕ × (List ℤ × List (List ℕ))) };
 
     ghost view = { λ s. s.tests.items };
+
+    ghost invariant = { λ s. IfSome s.first (λ range. Tells range s.tests.items) };
 }
 
 impl<'k> Sieve<'k> {
+    // The sieve of the tests.
+    pub(crate) fn new(tests: Vec<Test<'k>>) -> Sieve<'k>
+        ensures { result ≡ tests.entry.items }
+    {
+        let first = first_range(tests.as_slice());
+        Sieve { tests, first }
+    }
+
     // A sieve of the columns from that one on, each with what may stand in it: what passes their tests passes it.
     pub(crate) fn of(
         alloc: Global,
@@ -153,7 +187,20 @@ impl<'k> Sieve<'k> {
         'columns: for i in 0..columns.len() {
             add_test(&mut tests, start.checked_add(i), &columns[i])?;
         }
-        Ok(Sieve { tests })
+        Ok(Sieve::new(tests))
+    }
+
+    // Whether the row passes each test. Few rows come so far, so the others need not make room for this call.
+    #[inline(never)]
+    fn passes_each(&self, row: &Row) -> bool
+        ensures { result ≡ row_passes self.now row.now }
+    {
+        'tests: for test in &self.tests {
+            if !test.keys.has_at(row, test.column) {
+                return false;
+            }
+        }
+        true
     }
 }
 
@@ -181,11 +228,11 @@ impl RowTest<Row> for Sieve<'_> {
     ghost passes = { row_passes };
 
     fn test(&self, row: &Row) -> bool {
-        'tests: for test in &self.tests {
-            if !test.keys.has_at(row, test.column) {
+        if let Some(first) = &self.first {
+            if !first.may_pass(row) {
                 return false;
             }
         }
-        true
+        self.passes_each(row)
     }
 }

@@ -2,7 +2,7 @@ use Rattle.std.proofs.Common.{◌≡◌, Contains, IfSome, Some, ap, slice_get, 
 use Rattle.std.proofs.lemmas.List.Elements.{Contains-get_or}
 use Rattle.og_query.specs.Queries.{image}
 use Rattle.og_query.specs.declared.expression.Expr.TheVariants as expr
-use Rattle.og_view.specs.Sieves.{is_among}
+use Rattle.og_view.specs.Sieves.{is_among, passes}
 use Rattle.og_view.proofs.AgainLemmas.{handed_through}
 use Rattle.og_view.proofs.SieveLemmas.{passes-one}
 use Rattle.og_view.proofs.again.of_columns.Goals as goal
@@ -19,3 +19,6 @@ tests-preserved c d row passing =
     (λ place is.
     ap (is_among c.test.inside.keys.now) (sym (handed_through d row items c.test.inside.column place (subst (λ o. IfSome o (λ place. slice_get items c.test.inside.column ≡ Some (expr.Column place))) is c.column_handed.ensures)))
     ∙ passes-one c.args.sieve.now (image d items row) (c.test.inside.column, c.test.inside.keys.now) member passing)
+
+pub returns : goal.returns
+returns c d row passing = ap (λ tests. passes tests row) c.new.ensures ∙ c.tests.invariant d row passing

@@ -20,3 +20,6 @@ tests-preserved c table there =
           subst (All handed) (sym (ap (λ tests. tests.items) w.tests-is ∙ w.in_ok-push.ensures.items)) (All-push handed c.tests.tests.items _ (c.tests.invariant table there) (c.test.inside.column, member, lies))
       | in_default w ↦ subst (All handed) (sym (ap (λ tests. tests.items) w.tests-is)) (c.tests.invariant table there)
     ]
+
+pub returns : goal.returns
+returns c table there = subst (All (IsHanded c.args.sieve.now (take c.args.place c.args.tables.now) table)) (sym c.new.ensures) (c.tests.invariant table there)

@@ -1,11 +1,13 @@
-use Rattle.std.proofs.Common.{pos, ap, sym, ◌∙◌, arith}
+use Rattle.std.proofs.Common.{pos, ap, sym, ◌∙◌}
+use Rattle.std.specs.Option.{option_map}
 use Rattle.og_view.specs.Sieves.{is_among}
 use Rattle.og_view.proofs.SieveLemmas.{column-beyond, column-within}
 use Rattle.og_view.proofs.sieve.Keys.has_at.Goals as goal
 
-pub returns-then-column-len : goal.returns-then-column-len
-returns-then-column-len c =
-    c.has.ensures (pos 0) ∙ sym (ap (is_among c.args.self.now) (column-beyond c.args.row.now c.args.column (pos 0) (omega (arith, c.len.ensures, c.if-column-len.true))))
+pub returns-in-Some : goal.returns-in-Some
+returns-in-Some c =
+    c.has.ensures (pos 0) ∙ sym (ap (is_among c.args.self.now) (column-within c.args.row.now c.args.column (pos 0) _ (sym c.get.ensures ∙ ap (option_map (λ v. v.now)) c.in-Some.is)))
 
-pub returns : goal.returns
-returns c = c.has-2.ensures (pos 0) ∙ sym (ap (is_among c.args.self.now) (column-within c.args.row.now c.args.column (pos 0) c.value.result.now c.value.ensures))
+pub returns-in-None : goal.returns-in-None
+returns-in-None c =
+    c.has-in-None.ensures (pos 0) ∙ sym (ap (is_among c.args.self.now) (column-beyond c.args.row.now c.args.column (pos 0) (sym c.get.ensures ∙ ap (option_map (λ v. v.now)) c.in-None.is)))
