@@ -19,12 +19,10 @@ impl ColumnTest {
     pub(crate) fn may_pass(&self, row: &Row) -> bool
         ensures { result ≡ may_pass self.now row.now }
     {
-        if self.column >= row.len() {
-            return true;
-        }
-        match row.value(self.column) {
-            Value::Int(number) => allows(self.op, number.cmp(&self.number)),
-            _ => false,
+        match row.get(self.column) {
+            Some(Value::Int(number)) => allows(self.op, number.cmp(&self.number)),
+            Some(_) => false,
+            None => true,
         }
     }
 }

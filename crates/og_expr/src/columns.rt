@@ -30,11 +30,6 @@ impl<'a> Columns<'a> {
         if place < count {
             return Some(self.left.value(place));
         }
-        let place = place - count;
-        if place < self.right.len() {
-            Some(self.right.value(place))
-        } else {
-            None
-        }
+        self.right.get(place - count)
     }
 }

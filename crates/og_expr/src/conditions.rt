@@ -60,6 +60,10 @@ impl DayCond<Row> for PartDays<'_> {
             left: row,
             right: &none,
         };
+        // This test takes no memory and refuses most rows.
+        if !all_may_hold(self.parts, &columns) {
+            return Ok(RtSet::empty(alloc));
+        }
         all_days(alloc, self.parts, &columns)
     }
 

@@ -1,5 +1,6 @@
 //! Rows, whose values depend on the day, and rows of one day.
 ghost use Rattle.std.specs.Prelude.{◌≡◌, ◌<◌, ◌++◌, ◌∷◌, [], ℤ, length, slice_get, Some, IfOk, OnOk, OnErr, List};
+ghost use Rattle.std.specs.Option.{option_map};
 ghost use Rattle.og_base.specs.Calendar.{IsRefDay};
 ghost use Rattle.og_base.specs.Ranges.{holds_day};
 ghost use Rattle.og_base.specs.Set.{IsExactOrder};
@@ -89,6 +90,13 @@ impl Row {
         ensures { slice_get self.now i ≡ Some result.now }
     {
         self.values.part(i)
+    }
+
+    /// The value with that number, counted from 0; None where there are fewer.
+    pub fn get(&self, i: usize) -> Option<&Value>
+        ensures { option_map (λ v. v.now) result ≡ slice_get self.now i }
+    {
+        self.values.as_slice().get(i)
     }
 
     /// The values.
