@@ -19,7 +19,7 @@ use Rattle.og_rel.proofs.AlgebraLemmas.{length-filter_le}
 use Rattle.og_rel.proofs.PresentLemmas.{at_place, present-append, present-more}
 use Rattle.og_ops.specs.Days.{is_hit, OnNoDay}
 use Rattle.og_ops.specs.Lending.{lent}
-use Rattle.og_ops.specs.declared.pair.Hit.{Hit}
+use Rattle.og_rel.specs.declared.pair.Pair.{Pair}
 use Rattle.og_ops.specs.declared.semijoins.KeyedRow.{KeyedRow}
 use Rattle.og_join.specs.Hits.{stored_hits}
 use Rattle.og_join.specs.Joined.{joined, AreTold, DoOverlap}
@@ -41,7 +41,7 @@ module _ {R F : Type 0} (at : R → ℤ → F) where
     AreHits-nil = record { law = λ d r. one_joined-nil (λ x y. image d (glued x y)) (λ x y. holds d (glued x y)) (at row d) (holds_day days d); size = omega arith }
 
     -- others, and more others
-    AreHits-append : (xs ys : List (R × List Range)) (a b : List (Hit R)) → AreHits glued image holds at row days xs a → AreHits glued image holds at row days ys b → AreHits glued image holds at row days (xs ++ ys) (a ++ b)
+    AreHits-append : (xs ys : List (R × List Range)) (a b : List (Pair R)) → AreHits glued image holds at row days xs a → AreHits glued image holds at row days ys b → AreHits glued image holds at row days (xs ++ ys) (a ++ b)
     AreHits-append xs ys a b h k = record {
       law = λ d r.
           present-hits at d a b ∙ ap₂ (λ us vs. us ++ vs) (h.law d r) (k.law d r)
@@ -51,9 +51,9 @@ module _ {R F : Type 0} (at : R → ℤ → F) where
     }
 
     -- the others up to one more, which add more hits, where a premise on all others tells what each asks
-    pub AreHits-more : {K : Type 0} (premise : KeyedRow R K → Type 0) (rows : List (KeyedRow R K)) (i : ℕ) (s : KeyedRow R K) (initial old new a b : List (Hit R)) → i < length rows → s ≡ get_or rows i s
+    pub AreHits-more : {K : Type 0} (premise : KeyedRow R K → Type 0) (rows : List (KeyedRow R K)) (i : ℕ) (s : KeyedRow R K) (initial old new a b : List (Pair R)) → i < length rows → s ≡ get_or rows i s
         → (All premise rows → AreHits glued image holds at row days (lent (take i rows)) a) → old ≡ initial ++ a → (premise s → AreHits glued image holds at row days ((s.row.now, s.days.now) ∷ []) b) → new ≡ old ++ b
-        → (made : List (Hit R)) × (All premise rows → AreHits glued image holds at row days (lent (take (i + 1) rows)) made) × (new ≡ initial ++ made)
+        → (made : List (Pair R)) × (All premise rows → AreHits glued image holds at row days (lent (take (i + 1) rows)) made) × (new ≡ initial ++ made)
     AreHits-more premise rows i s initial old new a b l e h olds k news = (
       a ++ b,
       λ all. subst (λ others. AreHits glued image holds at row days others (a ++ b)) (sym (lent-more rows i s l e))
@@ -62,7 +62,7 @@ module _ {R F : Type 0} (at : R → ℤ → F) where
     )
 
     -- the hit of one other
-    pub AreHits-one : (other : R) (other_days : List Range) (h : Hit R) → ((d : ℤ) → IsRefDay d → at h.row d ≡ image d (glued (at row d) (at other d)))
+    pub AreHits-one : (other : R) (other_days : List Range) (h : Pair R) → ((d : ℤ) → IsRefDay d → at h.row d ≡ image d (glued (at row d) (at other d)))
         → ((d : ℤ) → IsRefDay d → holds_day h.days d ≡ is_hit glued holds (at row) (at other) days other_days d) → AreHits glued image holds at row days ((other, other_days) ∷ []) (h ∷ [])
     AreHits-one other other_days h row_is days_are = record {
       law = λ d r.
@@ -210,7 +210,7 @@ length-made gives most n each (t ∷ ts) made all h =
     product_more : (whole first rest bound count n : ℕ) → whole ≡ first + rest → first ≤ bound → bound ≤ n → rest ≤ count * n → whole ≤ suc count * n
     product_more whole first rest bound count n e f b r = grind (arith, e, f, b, r)
 
-module _ {R F K : Type 0} (at : R → ℤ → F) (glued : F → F → F) (image : ℤ → F → F) (holds : ℤ → F → Bool) (lefts : List (SameKey R (SpanKey K))) (hits : List (Hit R))
+module _ {R F K : Type 0} (at : R → ℤ → F) (glued : F → F → F) (image : ℤ → F → F) (holds : ℤ → F → Bool) (lefts : List (SameKey R (SpanKey K))) (hits : List (Pair R))
     (made : MadeOfEach (λ s h. AreHits glued image holds at s.row.now s.days.now (lent s.others.now) h) lefts hits) where
   -- the rows of a day of all hits that are made
   present-made : (d : ℤ) → IsRefDay d → present at (stored_hits hits) d ≡ joined_same_key at (λ x y. image d (glued x y)) (λ x y. holds d (glued x y)) lefts d
@@ -237,5 +237,5 @@ module _ {R F K : Type 0} (at : R → ℤ → F) (glued : F → F → F) (image 
       let whole = length-made (λ s h. AreHits glued image holds at s.row.now s.days.now (lent s.others.now) h) (λ s. length s.others.now) m (λ s h k. lent_size s h k.size) lefts hits most made in
       subst (λ k. length rel ≤ k * m) count (subst (λ xs. length xs ≤ length lefts * m) (sym is) (omega (arith, rows, whole)))
     where
-      lent_size : (s : SameKey R (SpanKey K)) (h : List (Hit R)) → length h ≤ length (lent s.others.now) → length h ≤ length s.others.now
+      lent_size : (s : SameKey R (SpanKey K)) (h : List (Pair R)) → length h ≤ length (lent s.others.now) → length h ≤ length s.others.now
       lent_size s h l = subst (λ k. length h ≤ k) (length-map s.others.now (λ q. (q.row.now, q.days.now))) l

@@ -5,7 +5,7 @@ use Rattle.std.proofs.lemmas.List.{length-append}
 use Rattle.std.proofs.lemmas.List.Folds.{list_any-append}
 use Rattle.og_base.specs.Calendar.{IsRefDay}
 use Rattle.og_base.specs.Ranges.{Range, holds_day}
-use Rattle.og_ops.specs.declared.pair.Hit.{Hit}
+use Rattle.og_rel.specs.declared.pair.Pair.{Pair}
 use Rattle.og_ops.specs.Days.{is_hit}
 use Rattle.og_par.specs.Phase.{MadeOfEach}
 use Rattle.og_rel.specs.Relations.{present}
@@ -16,7 +16,7 @@ use Rattle.og_join.proofs.PlaceTests.{at_both-get}
 
 module _ {R F : Type 0} (at : R → ℤ → F) where
   -- a test of the row of a hit, on its days
-  pub any_hit : (h : Hit R) (t : F → Bool) (d : ℤ) (met : Bool) (x : F) → holds_day h.days d ≡ met → at h.row d ≡ x → list_any t (present at (stored_hits (h ∷ [])) d) ≡ (met && t x)
+  pub any_hit : (h : Pair R) (t : F → Bool) (d : ℤ) (met : Bool) (x : F) → holds_day h.days d ≡ met → at h.row d ≡ x → list_any t (present at (stored_hits (h ∷ [])) d) ≡ (met && t x)
   any_hit h t d met x days row =
       ap (list_any t) (present-hit at d h)
       ∙ one (holds_day h.days d) ∙ ap₂ (λ m y. m && t y) days row
@@ -30,7 +30,7 @@ module _ {R F : Type 0} (at : R → ℤ → F) where
       one false = refl
 
   -- a test of the rows of all that was made
-  any_made : (image : ℤ → F → F) (meet : ℕ × ℕ → (F → Bool) → ℤ → Bool) (places : List (ℕ × ℕ)) (hits : List (Hit R)) → MadeOfEach (λ p made. IsMadeOf image at (meet p) made) places hits
+  any_made : (image : ℤ → F → F) (meet : ℕ × ℕ → (F → Bool) → ℤ → Bool) (places : List (ℕ × ℕ)) (hits : List (Pair R)) → MadeOfEach (λ p made. IsMadeOf image at (meet p) made) places hits
       → (t : F → Bool) (d : ℤ) → IsRefDay d → list_any t (present at (stored_hits hits) d) ≡ list_any (λ p. meet p (λ x. t (image d x)) d) places
   any_made image meet [] hits m t d r = ap (λ all. list_any t (present at (stored_hits all) d)) m
   any_made image meet (p ∷ places) hits m t d r =
@@ -40,13 +40,13 @@ module _ {R F : Type 0} (at : R → ℤ → F) where
       ∙ ap₂ (λ a b. a || b) (m.2.1 t d r) (any_made image meet places m.1 m.3 t d r)
 
   -- a test of the relation of all that was made
-  pub any_relation : (image : ℤ → F → F) (meet : ℕ × ℕ → (F → Bool) → ℤ → Bool) (places given : List (ℕ × ℕ)) (hits : List (Hit R)) (made : List (R × List Range)) → made ≡ stored_hits hits → given ≡ places
+  pub any_relation : (image : ℤ → F → F) (meet : ℕ × ℕ → (F → Bool) → ℤ → Bool) (places given : List (ℕ × ℕ)) (hits : List (Pair R)) (made : List (R × List Range)) → made ≡ stored_hits hits → given ≡ places
       → MadeOfEach (λ p all. IsMadeOf image at (meet p) all) given hits → (t : F → Bool) (d : ℤ) → IsRefDay d → list_any t (present at made d) ≡ list_any (λ p. meet p (λ x. t (image d x)) d) places
   any_relation image meet places given hits made e is m t d r =
       ap (λ rel. list_any t (present at rel d)) e ∙ any_made image meet given hits m t d r ∙ ap (list_any (λ p. meet p (λ x. t (image d x)) d)) is
 
   -- at most one row is made of each pair of places
-  pub length-made : (image : ℤ → F → F) (meet : ℕ × ℕ → (F → Bool) → ℤ → Bool) (places : List (ℕ × ℕ)) (hits : List (Hit R)) → MadeOfEach (λ p made. IsMadeOf image at (meet p) made) places hits → length hits ≤ length places
+  pub length-made : (image : ℤ → F → F) (meet : ℕ × ℕ → (F → Bool) → ℤ → Bool) (places : List (ℕ × ℕ)) (hits : List (Pair R)) → MadeOfEach (λ p made. IsMadeOf image at (meet p) made) places hits → length hits ≤ length places
   length-made image meet [] hits m = omega (arith, ap length m)
   length-made image meet (p ∷ places) hits m =
       omega (arith, ap length m.4 ∙ length-append m.0 m.1, m.2.0, length-made image meet places m.1 m.3)
@@ -62,6 +62,6 @@ module _ {R F : Type 0} (glued : F → F → F) (at : R → ℤ → F) (holds : 
   rows_meet-no_day t none = sym (ap (λ b. b && t (glued (at p.0 d) (at q.0 d))) none) ∙ met t
 
   -- a hit with the image of the two glued is what is made of them
-  pub rows_meet-hit : (image : F → F) (t : F → Bool) (h : Hit R) → holds_day h.days d ≡ is_hit glued holds (at p.0) (at q.0) p.1 q.1 d → at h.row d ≡ image (glued (at p.0 d) (at q.0 d))
+  pub rows_meet-hit : (image : F → F) (t : F → Bool) (h : Pair R) → holds_day h.days d ≡ is_hit glued holds (at p.0) (at q.0) p.1 q.1 d → at h.row d ≡ image (glued (at p.0 d) (at q.0 d))
       → list_any t (present at (stored_hits (h ∷ [])) d) ≡ rows_meet glued at holds left right m n (λ x. t (image x)) d
   rows_meet-hit image t h days row = any_hit at h t d (is_hit glued holds (at p.0) (at q.0) p.1 q.1 d) (image (glued (at p.0 d) (at q.0 d))) days row ∙ met (λ x. t (image x))

@@ -5,7 +5,7 @@ use Rattle.og_base.specs.Calendar.{IsRefDay}
 use Rattle.og_base.specs.Ranges.{Range}
 use Rattle.og_base.specs.declared.range.FixedPeriod.{FixedPeriod}
 use Rattle.og_rel.specs.Relations.{present}
-use Rattle.og_ops.specs.declared.pair.Hit.{Hit}
+use Rattle.og_rel.specs.declared.pair.Pair.{Pair}
 use Rattle.og_ops.specs.declared.semijoins.KeyedRow.{KeyedRow}
 use Rattle.og_ops.specs.Lending.{lent}
 use Rattle.og_join.specs.Hits.{stored_hits}
@@ -30,7 +30,7 @@ abbrev pub AreNear : {R F K : Type 0} → (F → F → F) → (R → ℤ → F) 
 AreNear glued at holds span_of s = All (IsNear glued at holds (span_of s.row.now) s.row.now) s.others.now
 
 -- on every day the image of the row glued to each of the others for which the condition holds, and at most one hit for each
-pub record AreHits {R F : Type 0} (glued : F → F → F) (image : ℤ → F → F) (holds : ℤ → F → Bool) (at : R → ℤ → F) (row : R) (days : List Range) (others : List (R × List Range)) (made : List (Hit R)) : Type 0 where
+pub record AreHits {R F : Type 0} (glued : F → F → F) (image : ℤ → F → F) (holds : ℤ → F → Bool) (at : R → ℤ → F) (row : R) (days : List Range) (others : List (R × List Range)) (made : List (Pair R)) : Type 0 where
   pub law : (d : ℤ) → IsRefDay d → present at (stored_hits made) d ≡ joined (λ x y. image d (glued x y)) (λ x y. holds d (glued x y)) (present at ((row, days) ∷ []) d) (present at others d)
   pub size : length made ≤ length others
 

@@ -5,7 +5,7 @@ use Rattle.og_base.specs.Calendar.{IsRefDay}
 use Rattle.og_base.specs.Ranges.{Range}
 use Rattle.og_base.specs.declared.comparison.Outer.{Outer}
 use Rattle.og_base.specs.declared.range.FixedPeriod.{FixedPeriod}
-use Rattle.og_ops.specs.declared.pair.Hit.{Hit}
+use Rattle.og_rel.specs.declared.pair.Pair.{Pair}
 use Rattle.og_ops.specs.Days.{is_hit}
 use Rattle.og_rel.specs.Relations.{present}
 use Rattle.og_join.specs.Hits.{stored_hits}
@@ -50,5 +50,5 @@ AreJoined {R} {F} glued image at holds left right rs ls made =
     (t : F → Bool) (d : ℤ) → IsRefDay d → list_any t (present at made d) ≡ list_any (meets_some glued at holds left right rs (λ x. t (image d x)) d) ls
 
 -- at most one row, and on each day it passes the tests that the image of two rows which meet passes
-abbrev pub IsMadeOf : {R F : Type 0} → (ℤ → F → F) → (R → ℤ → F) → ((F → Bool) → ℤ → Bool) → List (Hit R) → Type 0
+abbrev pub IsMadeOf : {R F : Type 0} → (ℤ → F → F) → (R → ℤ → F) → ((F → Bool) → ℤ → Bool) → List (Pair R) → Type 0
 IsMadeOf {R} {F} image at meet made = (length made ≤ 1) × ((t : F → Bool) (d : ℤ) → IsRefDay d → list_any t (present at (stored_hits made) d) ≡ meet (λ x. t (image d x)) d)

@@ -4,7 +4,6 @@ ghost use Rattle.og_par.specs.Limits.{max_workers};
 ghost use Rattle.og_join.specs.Overlaps.{Rises};
 ghost use Rattle.og_join.specs.Tried.{AreJoined};
 
-use crate::hits::relation_of;
 use crate::row_pairs::row_pairs;
 use crate::tries::TryPair;
 use og_base::{DayCond, Glue, NoMemory, Outer};
@@ -41,5 +40,5 @@ where
 {
     let pairs = row_pairs(alloc, left_spans, right_spans)?;
     let hits = par_rows(rt, alloc, workers, pairs.as_slice(), pair, gate)?;
-    relation_of(alloc, hits)
+    Ok(Rel::of(hits))
 }

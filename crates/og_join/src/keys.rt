@@ -7,7 +7,6 @@ ghost use Rattle.og_par.specs.Limits.{max_workers};
 ghost use Rattle.og_rel.specs.Relations.{relation_at};
 ghost use Rattle.og_join.specs.Joined.{joined, AreTold};
 
-use crate::hits::relation_of;
 use crate::same_key::{TryRow, left_with_others, right_by_key};
 use crate::sought::keys_sought;
 use crate::spans::{AllDays, Spans};
@@ -159,5 +158,5 @@ where
         },
         gate,
     )?;
-    relation_of(alloc, hits)
+    Ok(Rel::of(hits))
 }

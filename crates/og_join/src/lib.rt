@@ -16,7 +16,6 @@
 
 mod blocks;
 mod groups;
-mod hits;
 mod keys;
 mod laws;
 mod outers;

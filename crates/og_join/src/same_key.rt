@@ -6,7 +6,7 @@ ghost use Rattle.std.specs.Ordering.{eq_by_cmp, is_lt, on};
 ghost use Rattle.og_base.specs.Calendar.{IsRefDay};
 ghost use Rattle.og_rel.specs.Relations.{present};
 ghost use Rattle.og_ops.specs.Lending.{lent, ByKey};
-ghost use Rattle.og_ops.specs.declared.pair.Hit.{Hit};
+ghost use Rattle.og_rel.specs.declared.pair.Pair.{Pair};
 ghost use Rattle.og_join.specs.Groups.{AreGroupsOf};
 ghost use Rattle.og_join.specs.Joined.{joined, AreTold};
 ghost use Rattle.og_join.specs.SameKey.{AreHits, AreNear, HaveDayKeys, HaveSpans, IsNear, joined_same_key};
@@ -174,7 +174,7 @@ fn try_others<R: Glue + Drop, K, C: DayCond<R>, M: PairMap<R>>(
     pair_map: &M,
     out: &mut Vec<Hit<R>>,
 ) -> Result<(), NoMemory>
-    ensures { OnOk result ((made : List (Hit R)) × (All (IsNear R.glued R.meaning (C.holds cond.now) span.now item.now.row.now) item.now.others.now → AreHits R.glued (M.image pair_map.now) (C.holds cond.now) R.meaning item.now.row.now item.now.days.now (lent item.now.others.now) made)
+    ensures { OnOk result ((made : List (Pair R)) × (All (IsNear R.glued R.meaning (C.holds cond.now) span.now item.now.row.now) item.now.others.now → AreHits R.glued (M.image pair_map.now) (C.holds cond.now) R.meaning item.now.row.now item.now.days.now (lent item.now.others.now) made)
         × (out.new.items ≡ out.old.items ++ made)) }
 {
     let others = item.others;
@@ -195,7 +195,7 @@ fn try_near<R: Glue + Drop, K, C: DayCond<R>, M: PairMap<R>>(
     pair_map: &M,
     out: &mut Vec<Hit<R>>,
 ) -> Result<(), NoMemory>
-    ensures { OnOk result ((made : List (Hit R)) × (IsNear R.glued R.meaning (C.holds cond.now) span.now row.now other.now
+    ensures { OnOk result ((made : List (Pair R)) × (IsNear R.glued R.meaning (C.holds cond.now) span.now row.now other.now
         → AreHits R.glued (M.image pair_map.now) (C.holds cond.now) R.meaning row.now days.now ((other.now.row.now, other.now.days.now) ∷ []) made)
         × (out.new.items ≡ out.old.items ++ made)) }
 {
@@ -217,7 +217,7 @@ fn try_pair<R: Glue + Drop, C: DayCond<R>, M: PairMap<R>>(
     pair_map: &M,
     out: &mut Vec<Hit<R>>,
 ) -> Result<(), NoMemory>
-    ensures { OnOk result ((made : List (Hit R)) × AreHits R.glued (M.image pair_map.now) (C.holds cond.now) R.meaning left.now left_days.now ((right.now, right_days.now) ∷ []) made × (out.new.items ≡ out.old.items ++ made)) }
+    ensures { OnOk result ((made : List (Pair R)) × AreHits R.glued (M.image pair_map.now) (C.holds cond.now) R.meaning left.now left_days.now ((right.now, right_days.now) ∷ []) made × (out.new.items ≡ out.old.items ++ made)) }
 {
     match test_pair_with(alloc, left, left_days, right, right_days, cond, pair_map)? {
         Some(hit) => out.push(hit)?,

@@ -1,6 +1,6 @@
 //! Pairs of rows that are tried, by their places.
 ghost use Rattle.std.specs.Prelude.{◌≡◌, ◌++◌, List, OnOk};
-ghost use Rattle.og_ops.specs.declared.pair.Hit.{Hit};
+ghost use Rattle.og_rel.specs.declared.pair.Pair.{Pair};
 ghost use Rattle.og_join.specs.Tried.{IsMadeOf, rows_meet};
 
 use og_base::{DayCond, Glue, NoMemory};
@@ -58,7 +58,7 @@ fn try_rows<R: Glue + Drop, C: DayCond<R>, M: PairMap<R>>(
     pair_map: &M,
     out: &mut Vec<Hit<R>>,
 ) -> Result<(), NoMemory>
-    ensures { OnOk result ((made : List (Hit R)) × IsMadeOf (M.image pair_map.now) R.meaning (rows_meet R.glued R.meaning (C.holds cond.now) left.now right.now m n) made
+    ensures { OnOk result ((made : List (Pair R)) × IsMadeOf (M.image pair_map.now) R.meaning (rows_meet R.glued R.meaning (C.holds cond.now) left.now right.now m n) made
         × (out.new.items ≡ out.old.items ++ made)) }
 {
     if m >= left.len() || n >= right.len() {

@@ -5,6 +5,8 @@ ghost use Rattle.og_base.specs.Ranges.{holds_day};
 ghost use Rattle.og_ops.specs.Days.{is_hit, OnSomeDay, OnNoDay};
 
 use og_base::{DayCond, Glue, NoMemory, RtSet};
+/// A row that was made of two, and its days.
+pub use og_rel::Pair as Hit;
 use std::alloc::Global;
 
 /// A map of two rows to the one that is made of them.
@@ -28,13 +30,6 @@ impl<R: Glue> PairMap<R> for Whole {
     fn map_pair(&self, alloc: Global, left: &R, right: &R) -> Result<R, NoMemory> {
         left.glue(alloc, right)
     }
-}
-
-/// A row that was made of two, and its days.
-#[derive(Drop)]
-pub struct Hit<R> {
-    pub row: R,
-    pub days: RtSet,
 }
 
 /// The glued row on the days on which both rows are present and the condition holds of it; None

@@ -2,11 +2,12 @@
 //!
 //! A `Rel` is the list of its rows with their days, of which none has no day. On a day it is the
 //! rising list of the rows that are present, each once (`relation_at` in specs/Relations.antt):
-//! `at` makes it alone, `at_workers` by several workers. `push` and `append` add their rows or
-//! change nothing, `replace` puts rows in the place of those that pass a `RowTest` or changes nothing,
-//! and `replace_both` does so in two relations or in neither. `passing` gives the rows that pass once
-//! more, `truncate` keeps the first rows, and `copy` equals its source. specs/Algebra.antt has UNION,
-//! EXCEPT and INTERSECT of sets of rows of one day. The trait `Tables` tells the relation of each name.
+//! `at` makes it alone, `at_workers` by several workers. `of` takes a list of rows, each with its days
+//! (`Pair`), as it lies in memory. `push` and `append` add their rows or change nothing, `replace` puts
+//! rows in the place of those that pass a `RowTest` or changes nothing, and `replace_both` does so in two
+//! relations or in neither. `passing` gives the rows that pass once more, `truncate` keeps the first
+//! rows, and `copy` equals its source. specs/Algebra.antt has UNION, EXCEPT and INTERSECT of sets of rows
+//! of one day. The trait `Tables` tells the relation of each name.
 //!
 //! No tests here: those of several workers stand in og_samples, and what scripts reach is tested by
 //! the cases.
@@ -22,6 +23,7 @@ mod row_test;
 mod shares;
 mod tables;
 
+pub use pair::Pair;
 pub use relation::{Rel, replace_both};
 pub use row_test::RowTest;
 pub use tables::Tables;

@@ -1,18 +1,21 @@
 //! A row and the days on which it is present.
 ghost use Rattle.std.specs.Prelude.{◌≡◌, ◌++◌, ◌+◌, ◌≤◌, [], ◌∷◌, IfOk, OnOk, filter, length, not};
+ghost use Rattle.std.specs.List.{All};
 ghost use Rattle.std.specs.List.Sorted.{IsPermutation};
 ghost use Rattle.std.specs.Vec.{vec_capacity, vec_len};
-ghost use Rattle.og_rel.specs.Pairs.{present_of_pairs};
+ghost use Rattle.og_base.specs.Ranges.{IsNormal};
+ghost use Rattle.og_rel.specs.Pairs.{has_day, present_of_pairs};
+ghost use Rattle.og_rel.specs.Relations.{HasDays};
 
 use crate::row_test::RowTest;
 use og_base::{Instant, NoMemory, OngoingRow, RefDay, RtSet};
 use std::alloc::Global;
 
-// A row and the days on which it is present.
+/// A row and the days on which it is present.
 #[derive(Drop)]
-pub(crate) struct Pair<R> {
-    pub(crate) row: R,
-    pub(crate) days: RtSet,
+pub struct Pair<R> {
+    pub row: R,
+    pub days: RtSet,
 }
 
 impl<R: OngoingRow> Pair<R> {
@@ -25,6 +28,29 @@ impl<R: OngoingRow> Pair<R> {
         let days = self.days.copy()?;
         let row = self.row.copy(alloc)?;
         Ok(Pair { row, days })
+    }
+}
+
+// The pairs that have a day.
+pub(crate) fn pairs_with_days<R: Drop>(mut pairs: Vec<Pair<R>>) -> Vec<Pair<R>>
+    ensures kept { result.items ≡ filter (λ p. has_day p.days) pairs.items }
+    ensures days { All (λ p. HasDays p.days) result.items }
+{
+    sets_are_normal(pairs.as_slice());
+    pairs.retain(
+        |pair: &Pair<R>| -> bool
+            ensures { result ≡ has_day pair.now.days }
+        { !pair.days.is_empty() },
+    );
+    pairs
+}
+
+// Each set of days is in the one normal form.
+fn sets_are_normal<R>(pairs: &[Pair<R>])
+    ensures { All (λ p. IsNormal p.days) pairs.now }
+{
+    'pairs: for pair in pairs {
+        pair.days.normal();
     }
 }
 

@@ -1,6 +1,6 @@
 //! Relations.
 ghost use Rattle.std.specs.Prelude.{◌≡◌, ◌++◌, ◌<◌, ◌≤◌, List, [], ◌∷◌, IfOk, OnOk, OnErr, length, slice_index_or, take};
-ghost use Rattle.std.specs.List.{All};
+ghost use Rattle.std.specs.List.{All, flat_map};
 ghost use Rattle.std.specs.List.Sorted.{IsPermutation};
 ghost use Rattle.og_base.specs.Ranges.{Range};
 ghost use Rattle.og_par.specs.Limits.{max_workers};
@@ -9,7 +9,8 @@ ghost use Rattle.og_rel.specs.Relations.{HasDays, instead, others, passing, rela
 use crate::blocks::LEAST;
 use crate::by_workers::rows_by_workers;
 use crate::pair::{
-    Pair, add_passing, count_other_pairs, exchange_pairs, present_rows, replace_pairs,
+    Pair, add_passing, count_other_pairs, exchange_pairs, pairs_with_days, present_rows,
+    replace_pairs,
 };
 use crate::row_test::RowTest;
 use og_base::{Instant, NoMemory, OngoingRow, RefDay, RtSet, rising};
@@ -45,6 +46,18 @@ impl<R> Rel<R> {
     {
         Rel {
             pairs: Vec::new(alloc),
+        }
+    }
+
+    /// The relation of the rows with their days, in their order, but for those that have none. Takes no memory,
+    /// and the rows stay where they lie.
+    pub fn of(pairs: Vec<Pair<R>>) -> Rel<R>
+    where
+        R: Drop,
+        ensures { result ≡ flat_map (λ p. stored p.row p.days) pairs.items }
+    {
+        Rel {
+            pairs: pairs_with_days(pairs),
         }
     }
 

@@ -1,5 +1,4 @@
 use Rattle.std.proofs.Common.{ap, length, arith, ◌∙◌}
-use Rattle.std.proofs.lemmas.Result.{IfOk-weaker}
 use Rattle.og_join.specs.Tried.{rows_meet}
 use Rattle.og_join.proofs.HitLemmas.{length-stored_hits}
 use Rattle.og_join.proofs.TryLemmas.{any_relation, length-made}
@@ -11,9 +10,8 @@ returns-clause-rows g c =
     let pair = c.args.pair.now in
     let image = g.M.PairMap.image pair.pair_map.now in
     let meet = rows_meet g.R.Glue.glued at (g.C.DayCond.holds pair.cond.now) pair.left.now pair.right.now in
-    IfOk-weaker c.relation_of.result _ _ (λ made e t d r.
-    any_relation at image (λ p. meet p.0 p.1) c.in_ok-pairs.pairs.items c.as_slice.result.now c.in_ok-hits.hits.items made e c.as_slice.ensures.value c.in_ok-hits.ensures t d r
-    ∙ c.in_ok-pairs.ensures.rows (λ m n. meet m n (λ x. t (image d x)) d)) c.relation_of.ensures
+    λ t d r. any_relation at image (λ p. meet p.0 p.1) c.in_ok-pairs.pairs.items c.as_slice.result.now c.in_ok-hits.hits.items c.of.result c.of.ensures c.as_slice.ensures.value c.in_ok-hits.ensures t d r
+    ∙ c.in_ok-pairs.ensures.rows (λ m n. meet m n (λ x. t (image d x)) d)
 
 pub returns-clause-size : goal.returns-clause-size
 returns-clause-size g c =
@@ -21,4 +19,4 @@ returns-clause-size g c =
     let pair = c.args.pair.now in
     let meet = rows_meet g.R.Glue.glued at (g.C.DayCond.holds pair.cond.now) pair.left.now pair.right.now in
     let tried = length-made at (g.M.PairMap.image pair.pair_map.now) (λ p. meet p.0 p.1) c.as_slice.result.now c.in_ok-hits.hits.items c.in_ok-hits.ensures in
-    IfOk-weaker c.relation_of.result _ _ (λ made e. omega (arith, ap length e, length-stored_hits c.in_ok-hits.hits.items, tried, ap length c.as_slice.ensures.value, c.in_ok-pairs.ensures.size)) c.relation_of.ensures
+    omega (arith, ap length c.of.ensures, length-stored_hits c.in_ok-hits.hits.items, tried, ap length c.as_slice.ensures.value, c.in_ok-pairs.ensures.size)

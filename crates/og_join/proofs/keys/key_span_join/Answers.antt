@@ -3,7 +3,6 @@ use Rattle.std.specs.List.{All, Contains, list_any}
 use Rattle.std.specs.Ordering.{eq_by_cmp}
 use Rattle.std.proofs.lemmas.Bool.{and_parts}
 use Rattle.std.proofs.lemmas.List.Elements.{All-weaker}
-use Rattle.std.proofs.lemmas.Result.{IfOk-weaker}
 use Rattle.og_base.specs.Calendar.{IsRefDay}
 use Rattle.og_base.specs.Set.{IsExactOrder}
 use Rattle.og_par.specs.Phase.{MadeOfEach}
@@ -44,9 +43,8 @@ returns-clause-law g c =
     (λ y e. sought_alike key_ord.total c.in_ok-sought.sought (g.Q.Keys.left_of keys x) (g.Q.Keys.right_of keys y)
     (and_parts (same_key x y) (holds d (glued x y)) (and_parts (same_key x y && holds d (glued x y)) (t y) e).0).0 is))
     (present at c.args.left.now d) (c.in_ok-sought.ensures.all d r) in
-    IfOk-weaker c.relation_of.result _ _ (λ rel e d r.
-    made_law at glued image holds lefts c.in_ok-hits.hits.items made o same_key c.args.left.now c.args.right.now rel
-    (present at (lent c.as_slice.result.now) d) d r e (same d r) (c.in_ok-rows.ensures.rows (λ x y. image d (glued x y)) (λ x y. holds d (glued x y)) d r)) c.relation_of.ensures
+    λ d r. made_law at glued image holds lefts c.in_ok-hits.hits.items made o same_key c.args.left.now c.args.right.now c.of.result
+    (present at (lent c.as_slice.result.now) d) d r c.of.ensures (same d r) (c.in_ok-rows.ensures.rows (λ x y. image d (glued x y)) (λ x y. holds d (glued x y)) d r)
 
 pub returns-clause-size : goal.returns-clause-size
 returns-clause-size g c =
@@ -61,4 +59,4 @@ returns-clause-size g c =
     (subst (λ ts. MadeOfEach (λ s h. AreNear glued at holds left_span s → AreHits glued image holds at s.row.now s.days.now (lent s.others.now) h) ts c.in_ok-hits.hits.items) c.as_slice-2.ensures.value c.in_ok-hits.ensures) in
     let most = All-weaker (λ s. length s.others.now ≤ length c.as_slice.result.now) (λ s. length s.others.now ≤ length c.args.right.now)
     (λ s l. omega (arith, l, ap length c.as_slice.ensures.value, c.in_ok-others.ensures.size)) c.in_ok-rows.rows.items c.in_ok-rows.ensures.most in
-    IfOk-weaker c.relation_of.result _ _ (λ rel e. made_size at glued image holds c.in_ok-rows.rows.items c.in_ok-hits.hits.items made rel _ _ e c.in_ok-rows.ensures.size most) c.relation_of.ensures
+    made_size at glued image holds c.in_ok-rows.rows.items c.in_ok-hits.hits.items made c.of.result _ _ c.of.ensures c.in_ok-rows.ensures.size most
