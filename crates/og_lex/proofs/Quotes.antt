@@ -1,5 +1,5 @@
 -- Quotes, doubled and single.
-use Rattle.std.proofs.Common.{◌≡◌, ℕ, suc, ◌+◌, ◌<◌, ◌&&◌, ◌||◌, not, ◌==◌, Bool, true, false, cond, List, [], ◌∷◌, ◌++◌, length, get_or, drop, slice_index, Some, refl, ap, ap₂, subst, sym, ◌∙◌, append_assoc, arith}
+use Rattle.std.proofs.Common.{◌≡◌, ℕ, zero, suc, ◌+◌, ◌<◌, ◌&&◌, ◌||◌, not, ◌==◌, Bool, true, false, cond, List, [], ◌∷◌, ◌++◌, length, get_or, drop, slice_index, None, Some, refl, ap, ap₂, subst, sym, ◌∙◌, append_assoc, arith}
 use Rattle.std.proofs.lemmas.Bool.Decides.{Decides-eqb}
 use Rattle.std.proofs.lemmas.Str.{IsUtf8-append, IsUtf8-nil, encode_ascii, IsUtf8-take, IsUtf8-drop, IsCharBoundary-before_ascii, IsCharBoundary-after_ascii}
 use Rattle.std.specs.List.{list_any}
@@ -31,6 +31,35 @@ closing-quote at (b ∷ z) h = ap (λ t. cond (not t) (Some at) (closing true (a
 pub closing-quoted : (at : ℕ) (content rest : List ℕ) → Stops is_quote rest
     → closing false at (doubled content ++ 39 ∷ rest) ≡ Some (at + length (doubled content))
 closing-quoted at content rest h = closing-doubled at content (39 ∷ rest) ∙ closing-quote (at + length (doubled content)) rest h
+
+-- what is no truth is false
+no_truth : (b : Bool) → ¬ (b ≡ true) → b ≡ false
+no_truth true never = absurd (never refl)
+no_truth false never = refl
+
+-- numbers that are not equal are not so by the test
+pub no_equal : (a b : ℕ) → ¬ (a ≡ b) → (a == b) ≡ false
+no_equal a b differ = no_truth (a == b) (λ is. differ ((Decides-eqb a b).0 is))
+
+-- without a quote nothing closes
+pub closing-none : (at : ℕ) (z : List ℕ) → ((k : ℕ) → k < length z → ¬ (is_quote (slice_index z k) ≡ true)) → closing false at z ≡ None
+closing-none at [] none = refl
+closing-none at (b ∷ z) none =
+    ap (λ t. cond (t && not (slice_index z 0 == 39)) (Some at) (closing t (at + 1) z)) (no_truth (is_quote b) (none 0 (omega arith)))
+    ∙ closing-none (at + 1) z (λ k l. none (suc k) (omega (arith, l)))
+
+-- the first quote closes, where no quote follows it
+pub closing-first : (at k : ℕ) (z : List ℕ) → k < length z → ((j : ℕ) → j < k → ¬ (is_quote (slice_index z j) ≡ true)) → is_quote (slice_index z k) ≡ true
+    → (slice_index z (suc k) == 39) ≡ false → closing false at z ≡ Some (at + k)
+closing-first at k [] l none is next = absurd (omega (arith, l))
+closing-first at zero (b ∷ z) l none is next =
+    ap (λ t. cond (t && not (slice_index z 0 == 39)) (Some at) (closing t (at + 1) z)) is
+    ∙ ap (λ t. cond (not t) (Some at) (closing true (at + 1) z)) next
+    ∙ ap Some (omega arith)
+closing-first at (suc k) (b ∷ z) l none is next =
+    ap (λ t. cond (t && not (slice_index z 0 == 39)) (Some at) (closing t (at + 1) z)) (no_truth (is_quote b) (none 0 (omega arith)))
+    ∙ closing-first (at + 1) k z (omega (arith, l)) (λ j m. none (suc j) (omega (arith, m))) is next
+    ∙ ap Some (omega arith)
 
 -- where a text closes, its content and what follows it
 pub record Closed (at : ℕ) (z : List ℕ) (end : ℕ) : Type 0 where

@@ -7,6 +7,7 @@ ghost use Rattle.og_lex.specs.Grammar.{HasText, IsTextAt};
 use crate::front::{Fault, Front};
 use crate::run::byte_at;
 use crate::token::{Token, TokenKind};
+use memchr::memchr;
 use og_base::NoMemory;
 use std::alloc::Global;
 use std::borrow::CowSlice;
@@ -37,7 +38,20 @@ fn is_text(z: &[u8]) -> bool
 }
 
 // The place of the closing quote: the first quote that is none of a doubled pair.
-fn closing(mut z: &[u8]) -> Option<usize>
+fn closing(z: &[u8]) -> Option<usize>
+    ensures value { result ≡ spec.closing false 0 z.now }
+    ensures within { IfSome result (λ end. end < length z.now) }
+{
+    // Most texts have no quote, and then the first one closes.
+    let first = memchr(b'\'', z)?;
+    if byte_at(z, first + 1) != b'\'' {
+        return Some(first);
+    }
+    closing_past_pairs(z)
+}
+
+// The same, by a look at each byte.
+fn closing_past_pairs(mut z: &[u8]) -> Option<usize>
     ensures value { result ≡ spec.closing false 0 z.entry.now }
     ensures within { IfSome result (λ end. end < length z.entry.now) }
 {

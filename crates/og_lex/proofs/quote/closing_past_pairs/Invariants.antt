@@ -1,6 +1,6 @@
 use Rattle.std.proofs.Common.{◌≡◌, ◌+◌, length, false}
 use Rattle.og_lex.specs.Front.{closing}
-use Rattle.og_lex.proofs.quote.closing.Given as goal
+use Rattle.og_lex.proofs.quote.closing_past_pairs.Given as goal
 
 abbrev pub invariant-bytes : goal.invariant-bytes
 invariant-bytes l = (closing l.is_second l.at l.z ≡ closing false 0 l.initial.z) × (l.at + length l.z ≡ length l.initial.z)
