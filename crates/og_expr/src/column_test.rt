@@ -1,5 +1,7 @@
 //! Tests of one column of a row: of a condition what tells most rows at the least cost.
-ghost use Rattle.std.specs.Prelude.{◌≡◌, IfSome};
+ghost use Rattle.std.specs.Prelude.{◌≡◌, false, IfSome};
+ghost use Rattle.std.specs.List.{list_all};
+ghost use Rattle.og_expr.specs.Bounds.{may_hold};
 ghost use Rattle.og_expr.specs.ColumnTests.{Tells, TellsAll, may_pass};
 
 use og_query::{Cond, Expr, allows};
@@ -19,11 +21,10 @@ impl ColumnTest {
     pub(crate) fn may_pass(&self, row: &Row) -> bool
         ensures { result ≡ may_pass self.now row.now }
     {
-        match row.get(self.column) {
-            Some(Value::Int(number)) => allows(self.op, number.cmp(&self.number)),
-            Some(_) => false,
-            None => true,
-        }
+        let Some(number) = row.number(self.column) else {
+            return row.get(self.column).is_none();
+        };
+        allows(self.op, number.cmp(&self.number))
     }
 }
 
@@ -54,6 +55,16 @@ fn first_of(parts: &Items<Cond>) -> Option<ColumnTest>
         }
     }
     None
+}
+
+// Whether the first such comparison among the conditions, where there is one, may hold of the row.
+pub(crate) fn first_may_hold(parts: &Items<Cond>, row: &Row) -> bool
+    ensures { result ≡ false → list_all (may_hold row.now) parts.now ≡ false }
+{
+    match first_of(parts) {
+        Some(test) => test.may_pass(row),
+        None => true,
+    }
 }
 
 // Such a comparison that the condition is, or that is a part of it where it is an AND.

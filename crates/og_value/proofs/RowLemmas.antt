@@ -30,6 +30,23 @@ periods_same p q =
     period_of : ℤ → ℤ → FixedPeriod
     period_of s t = record { start = s; end = t }
 
+-- two points are the same where their bounds are
+points_alike : (p q : points.Point) → Decides (int_eq p.low q.low && int_eq p.high q.high) (p ≡ q)
+points_alike p q =
+    Decides-and (int_eq p.low q.low) (int_eq p.high q.high) (Decides-int_eq p.low q.low) (Decides-int_eq p.high q.high)
+    (λ a b. ap₂ point_of a b) (λ e. (ap (λ (r : points.Point). r.low) e, ap (λ (r : points.Point). r.high) e))
+  where
+    point_of : ℤ → ℤ → points.Point
+    point_of a b = record { low = a; high = b }
+
+-- two periods are the same where the points at their ends are
+pub periods_alike : (i j : Period) (s t u w : points.Point) → s ≡ i.start → t ≡ j.start → u ≡ i.end → w ≡ j.end
+    → (int_eq s.low t.low && int_eq s.high t.high) ≡ true → (int_eq u.low w.low && int_eq u.high w.high) ≡ true → i ≡ j
+periods_alike i j s t u w a b e f g h = ap₂ period_of (sym a ∙ (points_alike s t).0 g ∙ b) (sym e ∙ (points_alike u w).0 h ∙ f)
+  where
+    period_of : points.Point → points.Point → Period
+    period_of x y = record { start = x; end = y }
+
 -- the parts of two lists up to one more place are the same where the parts up to that place are, and what stands there
 pub take_same : {A : Type 0} (xs ys : List A) (i : ℕ) (x y : A) → slice_get xs i ≡ Some x → slice_get ys i ≡ Some y
     → (take (suc i) xs ≡ take (suc i) ys) ↔ ((take i xs ≡ take i ys) × (x ≡ y))

@@ -3,6 +3,7 @@ pub mod Exact
 pub mod GroupLaws
 pub mod Groups
 pub mod HeightLaws
+pub mod Heads
 pub mod Heights
 pub mod Held
 pub mod Limits

@@ -15,6 +15,7 @@
 mod catalog;
 mod cell;
 mod digests;
+mod headed;
 mod height;
 mod kind;
 mod listed;

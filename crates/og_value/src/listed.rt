@@ -106,6 +106,16 @@ impl<T: Drop> Listed<T> {
         }
     }
 
+    /// The list of no parts.
+    pub fn empty(alloc: Global) -> Listed<T>
+        ensures { result ≡ [] }
+    {
+        Listed {
+            alloc,
+            places: Places::Empty,
+        }
+    }
+
     /// A list of no parts, with room for so many.
     pub fn with_room(alloc: Global, count: usize) -> Result<Listed<T>, NoMemory>
         ensures { IfOk result (λ list. list ≡ []) }

@@ -4,11 +4,13 @@ ghost use Rattle.std.specs.Option.{option_map};
 ghost use Rattle.og_base.specs.Calendar.{IsRefDay};
 ghost use Rattle.og_base.specs.Ranges.{holds_day};
 ghost use Rattle.og_base.specs.Set.{IsExactOrder};
+ghost use Rattle.og_value.specs.Heads.{number_at};
 ghost use Rattle.og_value.specs.Order.{row_order};
 ghost use Rattle.og_value.specs.Values.{row_at};
 ghost use Rattle.og_value.specs.declared.value.FixedValue as fixed;
 
 use crate::digests::{are_steady, loose, whole};
+use crate::headed::Headed;
 use crate::listed::Listed;
 use crate::measured::Measured;
 use crate::value::{FixedValue, Value};
@@ -19,7 +21,7 @@ use std::marker::Model;
 /// A row, seen as the list of its values.
 #[derive(Debug, PartialEq, Eq, Drop)]
 pub struct Row {
-    values: Listed<Value>,
+    values: Headed,
 }
 
 impl Model for Row {
@@ -57,7 +59,16 @@ impl Row {
         ensures { result ≡ values.items }
     {
         Row {
-            values: Listed::of(values),
+            values: Headed::of(Listed::of(values)),
+        }
+    }
+
+    /// The row of no values. Takes no memory.
+    pub fn empty(alloc: Global) -> Row
+        ensures { result ≡ [] }
+    {
+        Row {
+            values: Headed::empty(alloc),
         }
     }
 
@@ -65,7 +76,7 @@ impl Row {
     pub fn with_room(alloc: Global, count: usize) -> Result<Row, NoMemory>
         ensures { IfOk result (λ row. row ≡ []) }
     {
-        let values = Listed::with_room(alloc, count)?;
+        let values = Headed::with_room(alloc, count)?;
         Ok(Row { values })
     }
 
@@ -89,7 +100,7 @@ impl Row {
         requires { i < length self.now }
         ensures { slice_get self.now i ≡ Some result.now }
     {
-        self.values.part(i)
+        self.values.value(i)
     }
 
     /// The value with that number, counted from 0; None where there are fewer.
@@ -97,6 +108,14 @@ impl Row {
         ensures { option_map (λ v. v.now) result ≡ slice_get self.now i }
     {
         self.values.as_slice().get(i)
+    }
+
+    /// The number that stands at the place, counted from 0; None where there is another value or none. The one
+    /// at place 0 is told without a look at the values.
+    pub fn number(&self, i: usize) -> Option<i64>
+        ensures { result ≡ number_at self.now i }
+    {
+        self.values.number(i)
     }
 
     /// The values.
@@ -160,7 +179,7 @@ impl OngoingRow for Row {
         }
         let mut days = RtSet::all(alloc)?;
         'columns: for i in 0..self.len() {
-            days = days.meet(&self.value(i).same(alloc, other.value(i))?)?;
+            days = self.value(i).same_within(alloc, other.value(i), days)?;
         }
         Ok(days)
     }
@@ -223,7 +242,9 @@ fn joined(alloc: Global, first: &[Value], second: &[Value]) -> Result<Row, NoMem
     let mut values = Listed::with_room(alloc, first.len().saturating_add(second.len()))?;
     append_copies(first, &mut values)?;
     append_copies(second, &mut values)?;
-    Ok(Row { values })
+    Ok(Row {
+        values: Headed::of(values),
+    })
 }
 
 // Appends a copy of each of the values.

@@ -1,5 +1,5 @@
 //! Values, and what they are on one day.
-ghost use Rattle.std.specs.Prelude.{◌≡◌, ℤ, IfOk};
+ghost use Rattle.std.specs.Prelude.{◌≡◌, ◌&&◌, ℤ, Bool, IfOk, IsTrue};
 ghost use Rattle.std.specs.Bool.{Decides};
 ghost use Rattle.og_base.specs.Calendar.{IsRefDay};
 ghost use Rattle.og_base.specs.Ranges.{holds_day};
@@ -65,8 +65,37 @@ impl Value {
         Ok(fixed)
     }
 
-    /// The days on which both values are equal.
-    pub(crate) fn same(&self, alloc: Global, other: &Value) -> Result<RtSet, NoMemory>
+    /// Of the days those on which both values are equal.
+    pub(crate) fn same_within(
+        &self,
+        alloc: Global,
+        other: &Value,
+        days: RtSet,
+    ) -> Result<RtSet, NoMemory>
+        ensures { IfOk result (λ s. (d : ℤ) → IsRefDay d →
+            (same : Bool) × (holds_day s d ≡ (holds_day days d && same)) × Decides same (value_at self.now d ≡ value_at other.now d)) }
+    {
+        if self.is_always(other) {
+            return Ok(days);
+        }
+        days.meet(&self.same(alloc, other)?)
+    }
+
+    // Whether both values are written alike, and so are equal on all days.
+    fn is_always(&self, other: &Value) -> bool
+        ensures { IsTrue result → self.now ≡ other.now }
+    {
+        match (self, other) {
+            (Value::Int(m), Value::Int(n)) => *m == *n,
+            (Value::Text(m), Value::Text(n)) => *m == *n,
+            (Value::Point(p), Value::Point(q)) => *p == *q,
+            (Value::Period(i), Value::Period(j)) => are_alike(*i, *j),
+            _ => false,
+        }
+    }
+
+    // The days on which both values are equal.
+    fn same(&self, alloc: Global, other: &Value) -> Result<RtSet, NoMemory>
         ensures { IfOk result (λ s. (d : ℤ) → IsRefDay d → Decides (holds_day s d) (value_at self.now d ≡ value_at other.now d)) }
     {
         match (self, other) {
@@ -77,6 +106,13 @@ impl Value {
             _ => Ok(RtSet::empty(alloc)),
         }
     }
+}
+
+// Whether the periods are written alike.
+fn are_alike(i: OngoingPeriod, j: OngoingPeriod) -> bool
+    ensures { IsTrue result → i ≡ j }
+{
+    i.start() == j.start() && i.end() == j.end()
 }
 
 // All days, or none.

@@ -26,6 +26,7 @@ use Rattle.og_query.proofs.QueryLemmas.{rows_ordered}
 use Rattle.og_plan.specs.Meaning.{column}
 use Rattle.og_exec.specs.Tables.{Relation, rows_on}
 use Rattle.og_view.specs.Numbers.{AreBetween}
+use Rattle.og_value.specs.Heads.{number_at, number_in}
 use Rattle.og_view.specs.RangeTests.{is_within}
 use Rattle.og_view.specs.Sieves.{Keys, Test, is_among, meets, passes, row_meets, row_passes, sifted, tests_from}
 use Rattle.og_view.proofs.NarrowedLemmas.{and_swap, first_of, second_of}
@@ -200,10 +201,10 @@ row_passes-push columns keys row all one =
 
 -- a row of which what stands in a column is no number between bounds of keys does not meet the test of the column
 pub range_tells : (keys : Keys) (least greatest : ℤ) (place : ℕ) (row : List Value) → AreBetween least greatest keys.0
-    → is_within least greatest (slice_get row place) ≡ false → row_meets row (place, keys) ≡ false
+    → is_within least greatest (number_at row place) ≡ false → row_meets row (place, keys) ≡ false
 range_tells keys least greatest place row all out = at (slice_get row place) refl out
   where
-    at : (o : Option Value) → slice_get row place ≡ o → is_within least greatest o ≡ false → row_meets row (place, keys) ≡ false
+    at : (o : Option Value) → slice_get row place ≡ o → is_within least greatest (number_in o) ≡ false → row_meets row (place, keys) ≡ false
     at (Some (Int n)) is none = ap (is_among keys) (column-within row place (pos 0) (Int n) is) ∙ not_between least greatest n keys.0 all none
     at (Some (Text t)) is none = absurd (true≢false none)
     at (Some (Point p)) is none = absurd (true≢false none)

@@ -2,7 +2,7 @@
 ghost use Rattle.std.specs.Prelude.{◌≡◌};
 ghost use Rattle.og_view.specs.RangeTests.{may_pass};
 
-use og_value::{Row, Value};
+use og_value::Row;
 
 // Two numbers, between which a number lies that stands in a column.
 #[derive(Drop)]
@@ -17,9 +17,9 @@ impl RangeTest {
     pub(crate) fn may_pass(&self, row: &Row) -> bool
         ensures { result ≡ may_pass self.now row.now }
     {
-        match row.get(self.column) {
-            Some(Value::Int(n)) => self.least <= *n && *n <= self.greatest,
-            _ => true,
+        match row.number(self.column) {
+            Some(n) => self.least <= n && n <= self.greatest,
+            None => true,
         }
     }
 }

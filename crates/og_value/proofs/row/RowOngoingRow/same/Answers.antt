@@ -4,5 +4,6 @@ use Rattle.og_value.proofs.row.RowOngoingRow.same.Goals as goal
 
 pub columns-preserved : goal.columns-preserved
 columns-preserved c d day =
-    rows_next c.args.self.now c.args.other.now c.columns.i _ _ d (holds_day c.columns.days d) _ _
-    c.value.ensures c.value-in-columns.ensures (c.in_ok-days-2.ensures d) (c.columns.invariant d day) (c.in_ok-same.ensures d day)
+    let within = c.in_ok-days-2.ensures d day in
+    rows_next c.args.self.now c.args.other.now c.columns.i _ _ d (holds_day c.columns.days d) within.0 _
+    c.value.ensures c.value-in-columns.ensures within.1 (c.columns.invariant d day) within.2
