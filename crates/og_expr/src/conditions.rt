@@ -7,6 +7,7 @@ ghost use Rattle.og_value.specs.Values.{row_at};
 ghost use Rattle.og_query.specs.Conditions.{truth};
 
 use crate::bounds::{all_may_hold, may_hold};
+use crate::column_test::first_may_hold;
 use crate::columns::Columns;
 use crate::comparisons::{compare_days, contain_days, empty_days, relate_days};
 use crate::values::value;
@@ -26,7 +27,7 @@ impl DayCond<Row> for CondDays<'_> {
     ghost holds = { λ c d row. truth d row c.cond.now };
 
     fn days(&self, alloc: Global, row: &Row) -> Result<RtSet, NoMemory> {
-        let none = Row::of(Vec::new(alloc));
+        let none = Row::empty(alloc);
         let columns = Columns {
             left: row,
             right: &none,
@@ -55,12 +56,15 @@ impl DayCond<Row> for PartDays<'_> {
     ghost holds = { λ c d row. list_all (truth d row) c.parts.now };
 
     fn days(&self, alloc: Global, row: &Row) -> Result<RtSet, NoMemory> {
-        let none = Row::of(Vec::new(alloc));
+        // These tests take no memory and refuse most rows, the first one by one column.
+        if !first_may_hold(self.parts, row) {
+            return Ok(RtSet::empty(alloc));
+        }
+        let none = Row::empty(alloc);
         let columns = Columns {
             left: row,
             right: &none,
         };
-        // This test takes no memory and refuses most rows.
         if !all_may_hold(self.parts, &columns) {
             return Ok(RtSet::empty(alloc));
         }

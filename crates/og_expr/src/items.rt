@@ -22,7 +22,7 @@ impl RowMap<Row> for ItemMap<'_> {
     ghost image = { λ m d row. meant.image d m.items.now row };
 
     fn map(&self, alloc: Global, row: &Row) -> Result<Row, NoMemory> {
-        let none = Row::of(Vec::new(alloc));
+        let none = Row::empty(alloc);
         row_of_pair(alloc, self.items, row, &none)
     }
 }

@@ -49,7 +49,7 @@ impl<'c> RowBounds<'c> {
         RowBounds {
             cond,
             first: told_by(cond),
-            none: Row::of(Vec::new(alloc)),
+            none: Row::empty(alloc),
         }
     }
 
@@ -62,6 +62,14 @@ impl<'c> RowBounds<'c> {
                 return false;
             }
         }
+        self.all_may_hold(row)
+    }
+
+    // The same, by all parts of the condition. Few rows come so far, so the others need not make room for this call.
+    #[inline(never)]
+    fn all_may_hold(&self, row: &Row) -> bool
+        ensures { result ≡ meant.may_hold row.now self.now }
+    {
         let columns = Columns {
             left: row,
             right: &self.none,

@@ -49,7 +49,7 @@ fn column(columns: &Columns<'_>, place: usize) -> Result<Value, NoMemory>
 pub fn value_on(alloc: Global, expr: &Expr, row: &Row) -> Result<Value, NoMemory>
     ensures { IfOk result (λ v. (d : ℤ) → IsRefDay d → value_at v d ≡ meaning d (row_at row.now d) expr.now) }
 {
-    let none = Row::of(Vec::new(alloc));
+    let none = Row::empty(alloc);
     let columns = Columns {
         left: row,
         right: &none,

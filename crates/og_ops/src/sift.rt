@@ -87,9 +87,12 @@ fn keep_row<R: Glue + Drop, C: DayCond<R>>(
 pub(crate) fn wanted_days(days: &RtSet, met: &RtSet, wanted: bool) -> Result<RtSet, NoMemory>
     ensures { IfOk result (λ s. (d : ℤ) → holds_day s d ≡ (holds_day days.now d && is_wanted wanted (holds_day met.now d))) }
 {
-    if wanted {
-        days.meet(met)
-    } else {
-        days.minus(met)
+    if !wanted {
+        return days.minus(met);
     }
+    // A condition holds of most rows on no day.
+    if met.is_empty() {
+        return met.copy();
+    }
+    days.meet(met)
 }
