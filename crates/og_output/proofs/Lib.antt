@@ -4,4 +4,3 @@ pub mod LongestLemmas
 pub mod PutLemmas
 pub mod RangeLemmas
 pub mod RecordLemmas
-pub mod SightLemmas

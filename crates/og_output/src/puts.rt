@@ -43,8 +43,8 @@ pub fn put<K: Sink>(piece: &[u8], out: &mut K) -> Result<(), PutRefusal>
 }
 
 /// Puts the rows of the relation on the day as a PRINT writes them: a record of the columns' names, then one of
-/// the texts of each row's values. Workers, 1 to `MAX_WORKERS` of og_par, make the text block by block, some
-/// blocks in each round, so that it never stands in memory whole.
+/// the texts of each row's values. Workers, 1 to `MAX_WORKERS` of og_par, put the rows in order and make the text block
+/// by block, some blocks in each round, so that it never stands in memory whole.
 pub fn put_relation<H: Threads + Sync, K: Sink, G: Gate + Sync>(
     rt: &H,
     alloc: Global,
@@ -60,8 +60,7 @@ pub fn put_relation<H: Threads + Sync, K: Sink, G: Gate + Sync>(
     ensures put { IsPut (K.written out.old) (K.written out.new) (layout columns.now (relation_at row_order row_at rel.now day)) result }
     ensures counted { IsFaultCount (is_unput result) (K.faults out.old) (K.faults out.new) }
 {
-    gate.enter(0);
-    let rows = sights_of(alloc, rel, day)?;
+    let rows = sights_of(rt, alloc, workers, gate, rel, day)?;
     put_layout(rt, alloc, workers, gate, columns, rows.as_slice(), out)
 }
 

@@ -5,4 +5,4 @@ pub mod PermutationLemmas
 pub mod PresentLemmas
 pub mod RisingLemmas
 mod ShareLemmas
-mod WorkerLemmas
+pub mod WorkerLemmas

@@ -58,18 +58,24 @@ All-made : {T X : Type 0} (P : X → Type 0) (gives : T → List X → Type 0) �
 All-made P gives each [] made m = All-same P made [] m (All-nil P)
 All-made P gives each (t ∷ ts) made m = All-same P made (m.0 ++ m.1) m.4 (All-append P m.0 m.1 (each t m.0 m.2) (All-made P gives each ts m.1 m.3))
 
+-- parts dealt to shares, put together and then in order
+pub set_of-shares : {F : Type 0} {cmp : F → F → Ordering} (o : IsExactOrder cmp)
+    → (gives : Vec (Vec F Global) Global → List (Vec F Global) → Type 0) → ((share : Vec (Vec F Global) Global) (made : List (Vec F Global)) → gives share made → AreListed cmp (rows_of share.items) made)
+    → (parts : List (Vec F Global)) (shares : List (Vec (Vec F Global) Global)) (lists : List (Vec F Global)) (rows : List F)
+    → IsPermutation (rows_of parts) (rows_of_shares shares) → MadeOfEach gives shares lists
+    → (All (λ list. IsStrictlySortedBy cmp list.items) lists → rows ≡ set_of cmp (rows_of lists))
+    → rows ≡ set_of cmp (rows_of parts)
+set_of-shares {F} {cmp} o gives each parts shares lists rows same put ordered =
+    ordered (All-made (λ list. IsStrictlySortedBy cmp list.items) gives (λ share a h. (each share a h).1) shares lists put)
+    ∙ set_of-made o gives rows_of (λ share. rows_of share.items) refl (flat_map-append (λ p. p.items))
+    (λ share a h. ap (set_of cmp) (each share a h).0 ∙ set_of-set_of o (rows_of share.items)) shares lists put
+    ∙ sym (set_of-permutation o (rows_of parts) (rows_of_shares shares) same)
+
 module _ {R F : Type 0} {cmp : F → F → Ordering} (o : IsExactOrder cmp) (at : R → ℤ → F) (d : ℤ) where
-  -- parts made of blocks of pairs, dealt to shares, put together and then in order
-  pub set_of-shares : (gives : Vec (Vec F Global) Global → List (Vec F Global) → Type 0) → ((share : Vec (Vec F Global) Global) (made : List (Vec F Global)) → gives share made → AreListed cmp (rows_of share.items) made)
-      → (blocks : List (Bor (List (Pair R)))) (parts : List (Vec F Global)) (shares : List (Vec (Vec F Global) Global)) (lists : List (Vec F Global)) (rows : List F)
+  -- parts made of blocks of pairs
+  pub set_of-blocks : (blocks : List (Bor (List (Pair R)))) (parts : List (Vec F Global))
       → MadeOfEach (λ block made. set_of cmp (rows_of made) ≡ set_of cmp (present_of_pairs at block.now d)) blocks parts
-      → IsPermutation (rows_of parts) (rows_of_shares shares) → MadeOfEach gives shares lists
-      → (All (λ list. IsStrictlySortedBy cmp list.items) lists → rows ≡ set_of cmp (rows_of lists))
-      → rows ≡ set_of cmp (present_of_pairs at (flat_map (λ b. b.now) blocks) d)
-  set_of-shares gives each blocks parts shares lists rows made same put ordered =
-      ordered (All-made (λ list. IsStrictlySortedBy cmp list.items) gives (λ share a h. (each share a h).1) shares lists put)
-      ∙ set_of-made o gives rows_of (λ share. rows_of share.items) refl (flat_map-append (λ p. p.items))
-      (λ share a h. ap (set_of cmp) (each share a h).0 ∙ set_of-set_of o (rows_of share.items)) shares lists put
-      ∙ sym (set_of-permutation o (rows_of parts) (rows_of_shares shares) same)
-      ∙ set_of-made o (λ block a. set_of cmp (rows_of a) ≡ set_of cmp (present_of_pairs at block.now d)) rows_of (λ b. present_of_pairs at b.now d) refl (flat_map-append (λ p. p.items)) (λ b a h. h) blocks parts made
+      → set_of cmp (rows_of parts) ≡ set_of cmp (present_of_pairs at (flat_map (λ b. b.now) blocks) d)
+  set_of-blocks blocks parts made =
+      set_of-made o (λ block a. set_of cmp (rows_of a) ≡ set_of cmp (present_of_pairs at block.now d)) rows_of (λ b. present_of_pairs at b.now d) refl (flat_map-append (λ p. p.items)) (λ b a h. h) blocks parts made
       ∙ ap (set_of cmp) (present_of_pairs-blocks at d blocks)

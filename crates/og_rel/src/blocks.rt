@@ -8,11 +8,11 @@ use og_base::{Instant, NoMemory, RefDay, rising};
 use og_par::Piece;
 use std::alloc::Global;
 
-// How many pairs a block has at least, but for the last one: fewer are listed sooner than a thread begins.
-pub(crate) const LEAST: usize = 1024;
+/// How many items a block has at least, but for the last one: fewer are listed sooner than a thread begins.
+pub const LEAST: usize = 1024;
 
-// The items cut into a block for each worker, or into fewer where these would have less than LEAST items.
-pub(crate) fn blocks_of<'a, X>(
+/// The items cut into a block for each worker, or into fewer where these would have less than `LEAST` items.
+pub fn blocks_of<'a, X>(
     alloc: Global,
     workers: usize,
     items: &'a [X],

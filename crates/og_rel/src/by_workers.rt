@@ -38,14 +38,29 @@ where
         cuts: cuts.as_slice(),
     };
     let parts = par_rows(rt, alloc, workers, blocks.as_slice(), &at_day, gate)?;
-    let shares = shares_of(alloc, cuts.len().saturating_add(1), parts)?;
+    put_together(rt, alloc, cuts.len().saturating_add(1), parts)
+}
+
+/// The rising list of the rows of the parts. Each of so many workers puts together a share of the parts: those between
+/// two cuts, where each block of rows was listed and cut at the same places, the last part first. Refused only for
+/// want of memory.
+pub fn put_together<H: Threads + Sync, F: Ord + Send + Drop>(
+    rt: &H,
+    alloc: Global,
+    shares: usize,
+    parts: Vec<Vec<F>>,
+) -> Result<Vec<F>, NoMemory>
+    requires exact { IsExact F.cmp }
+    ensures { IfOk result (λ rows. rows.items ≡ set_of F.cmp (rows_of parts.items)) }
+{
+    let shares = shares_of(alloc, shares, parts)?;
     let lists = par_handed(
         rt,
         alloc,
         shares,
-        &|share: Vec<Vec<R::Fixed>>| -> Result<Vec<Vec<R::Fixed>>, NoMemory>
-            requires { IsExact R.Fixed.cmp }
-            ensures { IfOk result (λ lists. AreListed R.Fixed.cmp (rows_of share.items) lists.items) }
+        &|share: Vec<Vec<F>>| -> Result<Vec<Vec<F>>, NoMemory>
+            requires { IsExact F.cmp }
+            ensures { IfOk result (λ lists. AreListed F.cmp (rows_of share.items) lists.items) }
         { together(alloc, share) },
     )?;
     in_order(alloc, lists)

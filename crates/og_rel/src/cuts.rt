@@ -1,6 +1,7 @@
 //! Cuts through the rows of a day, and the parts of a rising list between them.
 ghost use Rattle.std.specs.Prelude.{◌≤◌, IfOk, length};
 ghost use Rattle.std.specs.List.Sorted.{IsPermutation};
+ghost use Rattle.og_base.specs.Set.{IsExact};
 ghost use Rattle.og_rel.specs.Shares.{rows_of};
 
 use crate::pair::{Pair, add_row};
@@ -8,11 +9,10 @@ use og_base::{Instant, NoMemory, RefDay, rising};
 use std::alloc::Global;
 use std::cmp::Ordering;
 
-// At how many pairs it is looked for each share.
+// At how many items it is looked for each share.
 const LOOKS: usize = 64;
 
-// Rows of the day, falling, before which the rows are cut into so many shares or fewer. They are chosen among
-// those of pairs here and there, so that the shares are about equal; nothing else rests on which they are.
+// Rows of the day, falling, before which the rows are cut into so many shares or fewer.
 pub(crate) fn cuts_of<R: Instant>(
     alloc: Global,
     shares: usize,
@@ -21,7 +21,17 @@ pub(crate) fn cuts_of<R: Instant>(
 ) -> Result<Vec<R::Fixed>, NoMemory>
     requires { 1 ≤ shares }
 {
-    let rows = some_rows(alloc, shares, pairs, d)?;
+    let some = some_of(alloc, shares, pairs)?;
+    let rows = rows_at(alloc, some.as_slice(), d)?;
+    cuts_among(rows, shares)
+}
+
+/// Rows, falling, before which rows are cut into so many shares or fewer: some of these, which are chosen so that
+/// the shares are about equal where these stand for all. Nothing else rests on which they are.
+pub fn cuts_among<F: Ord + Drop>(rows: Vec<F>, shares: usize) -> Result<Vec<F>, NoMemory>
+    requires some { 1 ≤ shares }
+    requires exact { IsExact F.cmp }
+{
     let mut cuts = rising(rows)?;
     let step = cuts.len() / shares;
     let mut left = step;
@@ -34,27 +44,35 @@ pub(crate) fn cuts_of<R: Instant>(
     Ok(cuts)
 }
 
-// The rows at the day of pairs here and there.
-fn some_rows<R: Instant>(
-    alloc: Global,
-    shares: usize,
-    pairs: &[Pair<R>],
-    d: RefDay,
-) -> Result<Vec<R::Fixed>, NoMemory>
+/// Items here and there, which stand for all when these are cut into so many shares.
+pub fn some_of<'a, X>(alloc: Global, shares: usize, items: &'a [X]) -> Result<Vec<&'a X>, NoMemory>
     requires { 1 ≤ shares }
 {
-    let step = (pairs.len() / shares / LOOKS).max(1);
-    let mut rows = Vec::new(alloc);
-    'blocks: for block in pairs.chunks(step) {
-        if let Some(pair) = block.first() {
-            add_row(alloc, pair, d, &mut rows)?;
+    let step = (items.len() / shares / LOOKS).max(1);
+    let mut some = Vec::new(alloc);
+    'blocks: for block in items.chunks(step) {
+        if let Some(item) = block.first() {
+            some.push(item)?;
         }
+    }
+    Ok(some)
+}
+
+// The rows of the pairs at the day.
+fn rows_at<R: Instant>(
+    alloc: Global,
+    pairs: &[&Pair<R>],
+    d: RefDay,
+) -> Result<Vec<R::Fixed>, NoMemory> {
+    let mut rows = Vec::new(alloc);
+    'pairs: for pair in pairs {
+        add_row(alloc, *pair, d, &mut rows)?;
     }
     Ok(rows)
 }
 
-// The rows in parts, cut before each of the cuts, which fall, the last part first.
-pub(crate) fn parts_of<F: Ord + Drop>(
+/// The rows in parts, cut before each of the cuts, which fall, the last part first.
+pub fn parts_of<F: Ord + Drop>(
     alloc: Global,
     rows: Vec<F>,
     cuts: &[F],

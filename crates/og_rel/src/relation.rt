@@ -1,5 +1,5 @@
 //! Relations.
-ghost use Rattle.std.specs.Prelude.{◌≡◌, ◌++◌, ◌<◌, ◌≤◌, List, [], ◌∷◌, IfOk, OnOk, OnErr, length, slice_index_or, take};
+ghost use Rattle.std.specs.Prelude.{◌≡◌, ◌++◌, ◌<◌, ◌≤◌, List, [], ◌∷◌, IfOk, OnOk, OnErr, length, map, slice_index_or, take};
 ghost use Rattle.std.specs.List.{All, flat_map};
 ghost use Rattle.std.specs.List.Sorted.{IsPermutation};
 ghost use Rattle.og_base.specs.Ranges.{Range};
@@ -123,6 +123,13 @@ impl<R> Rel<R> {
         ensures { result ≡ length self.now }
     {
         self.pairs.len()
+    }
+
+    /// The rows with their days.
+    pub fn pairs(&self) -> &[Pair<R>]
+        ensures { map (λ p. (p.row, p.days)) result.now ≡ self.now }
+    {
+        self.pairs.as_slice()
     }
 
     /// The row at that place.

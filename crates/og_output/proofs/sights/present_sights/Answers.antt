@@ -1,21 +1,10 @@
-use Rattle.std.proofs.Common.{◌++◌, ◌∷◌, ◌<◌, ◌∙◌, [], ap, length, sym, arith}
-use Rattle.og_output.proofs.SightLemmas.{one_there, none_there}
-use Rattle.og_output.proofs.sights.present_sights.Goals.{then-contains+in_ok-push, else-contains}
+use Rattle.std.proofs.Common.{[], ◌∷◌, ◌++◌, ap, sym, ◌∙◌}
+use Rattle.og_value.specs.Values.{row_at}
+use Rattle.og_rel.specs.Pairs.{present_of_pairs}
+use Rattle.og_rel.proofs.PairLemmas.{present_of_pairs-more}
 use Rattle.og_output.proofs.sights.present_sights.Goals as goal
 
-pub rows-preserved : goal.rows-preserved
-rows-preserved c =
-    let rel = c.args.rel.now in
-    let row = c.row-row.result.now in
-    let days = c.days.result.now in
-    let before = c.rows.sights.items in
-    let after = c.if-contains.sights.items in
-    let within : c.rows.i < length rel = omega (arith, c.rows-test.true, c.len-i-end.ensures) in
-    elim c.if-contains.branch [
-      | then-contains+in_ok-push w ↦
-          one_there rel c.rows.i row days c.args.day within c.row-row.ensures c.days.ensures before after c.rows.invariant (sym c.contains.ensures ∙ w.if-contains.true)
-          (ap (λ v. v.items) w.sights-is ∙ w.in_ok-push.ensures.items ∙ ap (λ r. before ++ r ∷ []) w.new.ensures)
-      | else-contains w ↦
-          none_there rel c.rows.i row days c.args.day within c.row-row.ensures c.days.ensures before after c.rows.invariant (sym c.contains.ensures ∙ w.if-contains.false)
-          (ap (λ v. v.items) w.sights-is)
-    ]
+pub pairs-preserved : goal.pairs-preserved
+pairs-preserved c =
+    c.in_ok-add_sight.ensures ∙ ap (λ rows. rows ++ present_of_pairs row_at (c.pair-item.result ∷ []) c.args.day) c.pairs.invariant
+    ∙ sym (present_of_pairs-more row_at c.args.day c.args.pairs.now c.pairs.pair-index _ c.pairs-test.true c.pair-item.is)

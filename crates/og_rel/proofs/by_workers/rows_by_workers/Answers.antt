@@ -1,10 +1,9 @@
-use Rattle.std.proofs.Common.{ap, ◌∙◌, sym, subst}
+use Rattle.std.proofs.Common.{ap, ◌∙◌}
 use Rattle.std.specs.List.{flat_map}
 use Rattle.std.proofs.lemmas.Result.{IfOk-weaker}
 use Rattle.og_base.specs.Set.{IsExactOrder, set_of}
 use Rattle.og_rel.specs.Pairs.{present_of_pairs}
-use Rattle.og_rel.specs.Shares.{AreListed, rows_of}
-use Rattle.og_rel.proofs.WorkerLemmas.{set_of-shares}
+use Rattle.og_rel.proofs.WorkerLemmas.{set_of-blocks}
 use Rattle.og_rel.proofs.by_workers.rows_by_workers.Goals as goal
 
 pub returns : goal.returns
@@ -15,6 +14,5 @@ returns g c =
     let row = g.met.R.Instant g.world.𝓛 g.world.𝓜 g.world.𝓡 ((λ s x. x), (λ x. x), (λ x. x), λ x. x) in
     let o : IsExactOrder cmp = record { total = ord.total; exact = row.exact } in
     let all = ap (flat_map (λ b. b.now)) c.as_slice-2.ensures.value ∙ c.in_ok-blocks.ensures in
-    IfOk-weaker c.in_order.result _ _ (λ rows ordered. set_of-shares o at c.args.d _ (λ share made h. subst (AreListed cmp (rows_of share.items)) (sym h.2) h.1) _ _ _ _ rows.items
-    c.in_ok-parts.ensures c.in_ok-shares.ensures c.in_ok-lists.ensures ordered
-    ∙ ap (λ pairs. set_of cmp (present_of_pairs at pairs c.args.d)) all) c.in_order.ensures
+    IfOk-weaker c.put_together.result _ _ (λ rows same. same ∙ set_of-blocks o at c.args.d _ _ c.in_ok-parts.ensures
+    ∙ ap (λ pairs. set_of cmp (present_of_pairs at pairs c.args.d)) all) c.put_together.ensures
