@@ -11,6 +11,7 @@ ghost use Rattle.og_exec.specs.Keys as meant;
 ghost use Rattle.og_exec.specs.Tables.{rows_on};
 
 use crate::answer::{Answer, Inputs, made};
+use crate::key_rest::KeyRest;
 use crate::semi_keys::first_width;
 use crate::spans::{ColumnSpans, are_as_wide, columns_that_overlap};
 use og_base::NoMemory;
@@ -21,7 +22,7 @@ use og_par::Gate;
 use og_plan::ColPair;
 use og_query::Cond;
 use og_rel::Rel;
-use og_value::{FixedRow, FixedValue, Row, Value, order_of_rows};
+use og_value::{FixedValue, Row, Value, order_of_rows};
 use sqlite_items::Items;
 use std::alloc::Global;
 use std::thread::Threads;
@@ -31,7 +32,7 @@ use std::thread::Threads;
 #[derive(PartialEq, Eq, PartialOrd, Ord, Drop)]
 struct ColumnKey {
     first: FixedValue,
-    rest: FixedRow,
+    rest: KeyRest,
 }
 
 // Keys that are the values in the columns of pairs. A value that depends on the day counts as 0, so
@@ -86,19 +87,19 @@ fn no_column(alloc: Global) -> ColumnKey
 {
     ColumnKey {
         first: FixedValue::Int(0),
-        rest: FixedRow::of(Vec::new(alloc)),
+        rest: KeyRest::of(Vec::new(alloc)),
     }
 }
 
 // The key of a left row, or of a right one.
-fn key(alloc: Global, row: &Row, pairs: &[ColPair], left: bool) -> Result<FixedRow, NoMemory>
+fn key(alloc: Global, row: &Row, pairs: &[ColPair], left: bool) -> Result<KeyRest, NoMemory>
     ensures { IfOk result (λ k. (d : ℤ) → meant.key left pairs.now (row_at row.now d) ≡ k) }
 {
     let mut values = Vec::with_capacity(alloc, pairs.len())?;
     'pairs: for pair in pairs {
         values.push(key_value(row, place_in(left, pair))?)?;
     }
-    Ok(FixedRow::of(values))
+    Ok(KeyRest::of(values))
 }
 
 // The place of the left column of a pair, or of the right one.

@@ -13,6 +13,7 @@
 mod answer;
 mod combine;
 mod images;
+mod key_rest;
 mod keys;
 mod nodes;
 mod overlaps;
