@@ -11,7 +11,8 @@ use std::alloc::Global;
 /// How many items a block has at least, but for the last one: fewer are listed sooner than a thread begins.
 pub const LEAST: usize = 1024;
 
-/// The items cut into a block for each worker, or into fewer where these would have less than `LEAST` items.
+/// The items cut into a block for each worker, or into fewer where these would have less than `LEAST` items. Refused
+/// only for want of memory.
 pub fn blocks_of<'a, X>(
     alloc: Global,
     workers: usize,

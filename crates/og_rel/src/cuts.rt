@@ -27,7 +27,8 @@ pub(crate) fn cuts_of<R: Instant>(
 }
 
 /// Rows, falling, before which rows are cut into so many shares or fewer: some of these, which are chosen so that
-/// the shares are about equal where these stand for all. Nothing else rests on which they are.
+/// the shares are about equal where these stand for all. Nothing else rests on which they are. Refused only for want
+/// of memory.
 pub fn cuts_among<F: Ord + Drop>(rows: Vec<F>, shares: usize) -> Result<Vec<F>, NoMemory>
     requires some { 1 ≤ shares }
     requires exact { IsExact F.cmp }
@@ -44,7 +45,8 @@ pub fn cuts_among<F: Ord + Drop>(rows: Vec<F>, shares: usize) -> Result<Vec<F>, 
     Ok(cuts)
 }
 
-/// Items here and there, which stand for all when these are cut into so many shares.
+/// Items here and there, which stand for all when these are cut into so many shares. Nothing else rests on which they
+/// are. Refused only for want of memory.
 pub fn some_of<'a, X>(alloc: Global, shares: usize, items: &'a [X]) -> Result<Vec<&'a X>, NoMemory>
     requires { 1 ≤ shares }
 {
@@ -71,7 +73,7 @@ fn rows_at<R: Instant>(
     Ok(rows)
 }
 
-/// The rows in parts, cut before each of the cuts, which fall, the last part first.
+/// The rows in parts, cut before each of the cuts, which fall, the last part first. Refused only for want of memory.
 pub fn parts_of<F: Ord + Drop>(
     alloc: Global,
     rows: Vec<F>,
