@@ -14,12 +14,10 @@ use Rattle.og_syntax.specs.Reading.{Reads, and_then, past}
 use Rattle.og_syntax.specs.Reading as reading
 use Rattle.og_syntax.specs.Rules.{Rule}
 use Rattle.og_syntax.specs.Rules as rules_
-use Rattle.og_syntax.specs.Reader.{lit}
 use Rattle.og_syntax.specs.Follow.{anything, ahead, after_expr, after_query}
 use Rattle.og_syntax.specs.TextValues.{day_of}
 use Rattle.og_syntax.proofs.TextValues.{day_of-sound, day_of-complete}
 use Rattle.og_syntax.proofs.Exact.{Exact, bind_sound, bind_lead, exact-given, exact-pure, exact-tok, exact-worded, exact-bind, exact-then, exact-after, exact-map, exact-loose, exact-ends, exact-any, exact-choose, exact-optional, exact-joined, exact-single}
-use Rattle.og_syntax.proofs.Loops.{IsPart, is_part, after_sort}
 use Rattle.og_syntax.proofs.LiteralRules.{exact-name, exact-quoted, exact-text, exact-lit}
 use Rattle.og_syntax.proofs.ExpressionRules.{exact-expr}
 use Rattle.og_syntax.proofs.ConditionRules.{exact-cond}
@@ -99,22 +97,6 @@ pub exact-set : (script : List ℕ) (strict : Bool) → Exact false (is k.Name) 
 unfolding set IsSet same_sort
 exact-set script strict =
     exact-loose (exact-then (exact-name script) (λ x. exact-after k.Equal refl (exact-map (exact-expr script strict) (set_of x)))) refl refl
-
-pub coldef_part : (script : List ℕ) → IsPart (after_sort k.Comma) (past k.Comma (coldef script))
-unfolding same_sort
-coldef_part script = is_part (after_sort k.Comma) refl (exact-after k.Comma refl (exact-coldef script))
-
-pub lit_part : (script : List ℕ) (strict : Bool) → IsPart (after_sort k.Comma) (past k.Comma (lit script strict))
-unfolding same_sort
-lit_part script strict = is_part (after_sort k.Comma) refl (exact-after k.Comma refl (exact-lit script strict))
-
-pub tuple_part : (script : List ℕ) (strict : Bool) → IsPart (after_sort k.Comma) (past k.Comma (tuple script strict))
-unfolding same_sort
-tuple_part script strict = is_part (after_sort k.Comma) refl (exact-after k.Comma refl (exact-tuple script strict))
-
-pub set_part : (script : List ℕ) (strict : Bool) → IsPart (after_sort k.Comma) (past k.Comma (set script strict))
-unfolding same_sort
-set_part script strict = is_part (after_sort k.Comma) refl (exact-after k.Comma refl (exact-set script strict))
 
 -- ---- statements that change tables
 

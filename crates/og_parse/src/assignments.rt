@@ -1,11 +1,12 @@
 //! The assignments of UPDATE.
 ghost use Rattle.og_syntax.specs.declared.lexeme.Sort.{Sort};
-ghost use Rattle.og_syntax.specs.Lexemes.{is};
-ghost use Rattle.og_syntax.specs.Reading.{Gives, by, past, more, with_front};
+ghost use Rattle.og_syntax.specs.Lexemes.{is, sort_at};
+ghost use Rattle.og_syntax.specs.Reading.{Gives, by, past};
 ghost use Rattle.og_parse.specs.StatementReader as spec;
 
 use og_syntax::{
-    Lexeme, Reading, Refusal, SetText, Sort, after, expect, expression, name, same_sort, sort_at,
+    Lexeme, Parts, Reading, Refusal, SetText, Sort, expect, expression, more_parts, name,
+    same_sort, sort_at,
 };
 use sqlite_items::Items;
 
@@ -20,25 +21,32 @@ pub fn sets<'a>(
     let (first, rest) = set(reading, lexemes)?;
     let mut parts = Items::new(reading.alloc);
     parts.push(first)?;
-    more_sets(reading, rest, parts)
+    more_parts(reading, &FurtherSets, rest, parts)
 }
 
-// Further assignments, each after a comma, behind those that were read before.
-fn more_sets<'a>(
-    reading: &Reading<'_>,
-    lexemes: &'a [Lexeme],
-    parts: Items<SetText>,
-) -> Result<(Items<SetText>, &'a [Lexeme]), Refusal>
-    ensures { Gives result (with_front parts (more (is Sort.Comma) (past Sort.Comma (by reading.now spec.set)) lexemes.now)) }
-{
-    let mut parts = parts;
-    let mut rest = lexemes;
-    'more: while same_sort(sort_at(rest), Sort::Comma) {
-        let (part, left) = set(reading, after(rest))?;
-        parts.push(part)?;
-        rest = left;
+// Further assignments, each after a comma.
+#[derive(Clone, Copy)]
+struct FurtherSets;
+
+impl Parts for FurtherSets {
+    type Part = SetText;
+
+    ghost begins = { λ _ ts. is Sort.Comma (sort_at ts) };
+
+    ghost part = { λ _ script strict. past Sort.Comma (spec.set script strict) };
+
+    fn begins(&self, lexemes: &[Lexeme]) -> bool {
+        same_sort(sort_at(lexemes), Sort::Comma)
     }
-    Ok((parts, rest))
+
+    fn part<'a>(
+        &self,
+        reading: &Reading<'_>,
+        lexemes: &'a [Lexeme],
+    ) -> Result<(SetText, &'a [Lexeme]), Refusal> {
+        let rest = expect(lexemes, Sort::Comma)?;
+        set(reading, rest)
+    }
 }
 
 // A column and its new value.

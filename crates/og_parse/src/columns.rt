@@ -1,12 +1,14 @@
 //! The columns of CREATE TABLE.
 ghost use Rattle.std.specs.Prelude.{◌≡◌};
 ghost use Rattle.og_syntax.specs.declared.lexeme.Sort.{Sort};
-ghost use Rattle.og_syntax.specs.Lexemes.{is};
-ghost use Rattle.og_syntax.specs.Reading.{Gives, past, more, with_front};
+ghost use Rattle.og_syntax.specs.Lexemes.{is, sort_at};
+ghost use Rattle.og_syntax.specs.Reading.{Gives, past};
 ghost use Rattle.og_parse.specs.StatementReader as spec;
 ghost use Rattle.og_parse.specs.Statements as grammar;
 
-use og_syntax::{Lexeme, Reading, Refusal, Sort, after, name, same_sort, sort_at};
+use og_syntax::{
+    Lexeme, Parts, Reading, Refusal, Sort, after, expect, more_parts, name, same_sort, sort_at,
+};
 use og_value::{Column, Kind};
 use sqlite_items::Items;
 
@@ -21,25 +23,32 @@ pub fn coldefs<'a>(
     let (first, rest) = coldef(reading, lexemes)?;
     let mut parts = Items::new(reading.alloc);
     parts.push(first)?;
-    more_coldefs(reading, rest, parts)
+    more_parts(reading, &FurtherColumns, rest, parts)
 }
 
-// Further columns, each after a comma, behind those that were read before.
-fn more_coldefs<'a>(
-    reading: &Reading<'_>,
-    lexemes: &'a [Lexeme],
-    parts: Items<Column>,
-) -> Result<(Items<Column>, &'a [Lexeme]), Refusal>
-    ensures { Gives result (with_front parts (more (is Sort.Comma) (past Sort.Comma (spec.coldef reading.now.script.now)) lexemes.now)) }
-{
-    let mut parts = parts;
-    let mut rest = lexemes;
-    'more: while same_sort(sort_at(rest), Sort::Comma) {
-        let (part, left) = coldef(reading, after(rest))?;
-        parts.push(part)?;
-        rest = left;
+// Further columns, each after a comma.
+#[derive(Clone, Copy)]
+struct FurtherColumns;
+
+impl Parts for FurtherColumns {
+    type Part = Column;
+
+    ghost begins = { λ _ ts. is Sort.Comma (sort_at ts) };
+
+    ghost part = { λ _ script _. past Sort.Comma (spec.coldef script) };
+
+    fn begins(&self, lexemes: &[Lexeme]) -> bool {
+        same_sort(sort_at(lexemes), Sort::Comma)
     }
-    Ok((parts, rest))
+
+    fn part<'a>(
+        &self,
+        reading: &Reading<'_>,
+        lexemes: &'a [Lexeme],
+    ) -> Result<(Column, &'a [Lexeme]), Refusal> {
+        let rest = expect(lexemes, Sort::Comma)?;
+        coldef(reading, rest)
+    }
 }
 
 // A name and the word of its kind.

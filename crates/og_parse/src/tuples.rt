@@ -1,11 +1,13 @@
 //! The rows of INSERT.
 ghost use Rattle.og_syntax.specs.declared.lexeme.Sort.{Sort};
-ghost use Rattle.og_syntax.specs.Lexemes.{is};
+ghost use Rattle.og_syntax.specs.Lexemes.{is, sort_at};
 ghost use Rattle.og_syntax.specs.Reading.{Gives, by, past, more, with_front};
 ghost use Rattle.og_parse.specs.StatementReader as spec;
 ghost use Rattle.og_syntax.specs.Reader.{lit};
 
-use og_syntax::{Lexeme, Reading, Refusal, Sort, after, expect, literal, same_sort, sort_at};
+use og_syntax::{
+    Lexeme, Parts, Reading, Refusal, Sort, expect, literal, more_parts, same_sort, sort_at,
+};
 use og_value::{Row, Value};
 use sqlite_items::Items;
 
@@ -20,25 +22,32 @@ pub fn tuples<'a>(
     let (first, rest) = tuple(reading, lexemes)?;
     let mut parts = Items::new(reading.alloc);
     parts.push(first)?;
-    more_tuples(reading, rest, parts)
+    more_parts(reading, &FurtherTuples, rest, parts)
 }
 
-// Further tuples, each after a comma, behind those that were read before.
-fn more_tuples<'a>(
-    reading: &Reading<'_>,
-    lexemes: &'a [Lexeme],
-    parts: Items<Row>,
-) -> Result<(Items<Row>, &'a [Lexeme]), Refusal>
-    ensures { Gives result (with_front parts (more (is Sort.Comma) (past Sort.Comma (by reading.now spec.tuple)) lexemes.now)) }
-{
-    let mut parts = parts;
-    let mut rest = lexemes;
-    'more: while same_sort(sort_at(rest), Sort::Comma) {
-        let (part, left) = tuple(reading, after(rest))?;
-        parts.push(part)?;
-        rest = left;
+// Further tuples, each after a comma.
+#[derive(Clone, Copy)]
+struct FurtherTuples;
+
+impl Parts for FurtherTuples {
+    type Part = Row;
+
+    ghost begins = { λ _ ts. is Sort.Comma (sort_at ts) };
+
+    ghost part = { λ _ script strict. past Sort.Comma (spec.tuple script strict) };
+
+    fn begins(&self, lexemes: &[Lexeme]) -> bool {
+        same_sort(sort_at(lexemes), Sort::Comma)
     }
-    Ok((parts, rest))
+
+    fn part<'a>(
+        &self,
+        reading: &Reading<'_>,
+        lexemes: &'a [Lexeme],
+    ) -> Result<(Row, &'a [Lexeme]), Refusal> {
+        let rest = expect(lexemes, Sort::Comma)?;
+        tuple(reading, rest)
+    }
 }
 
 // Literals in parentheses.
@@ -64,6 +73,7 @@ fn lits<'a>(reading: &Reading<'_>, lexemes: &'a [Lexeme]) -> Result<(Row, &'a [L
 }
 
 // Further literals, each after a comma, behind those that were read before.
+#[tactic(auto, using(og_syntax::proofs::Loops::turns), unfolding(og_syntax::specs::Reading::more_if))]
 fn more_lits<'a>(
     reading: &Reading<'_>,
     lexemes: &'a [Lexeme],
@@ -73,10 +83,23 @@ fn more_lits<'a>(
 {
     let mut parts = parts;
     let mut rest = lexemes;
-    'more: while same_sort(sort_at(rest), Sort::Comma) {
-        let (part, left) = literal(reading, after(rest))?;
+    let mut turns = lexemes.len();
+    'more: while turns > 0 && same_sort(sort_at(rest), Sort::Comma) {
+        let (part, left) = further_literal(reading, rest)?;
         parts.push(part)?;
         rest = left;
+        turns -= 1;
     }
     Ok((Row::of(parts), rest))
+}
+
+// A literal after a comma.
+fn further_literal<'a>(
+    reading: &Reading<'_>,
+    lexemes: &'a [Lexeme],
+) -> Result<(Value, &'a [Lexeme]), Refusal>
+    ensures { Gives result (past Sort.Comma (by reading.now lit) lexemes.now) }
+{
+    let rest = expect(lexemes, Sort::Comma)?;
+    literal(reading, rest)
 }

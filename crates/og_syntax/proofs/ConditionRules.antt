@@ -7,14 +7,13 @@ use Rattle.og_syntax.specs.declared.tree.CondText.{CondText}
 use Rattle.og_syntax.specs.declared.tree.CondText.TheVariants as c
 use Rattle.og_syntax.specs.Lexemes.{is, same_sort}
 use Rattle.og_syntax.specs.Meanings.{comparison_of, predicate_of}
-use Rattle.og_syntax.specs.Reading.{Reads, has, past}
+use Rattle.og_syntax.specs.Reading.{Reads, has}
 use Rattle.og_syntax.specs.Rules.{Rule}
 use Rattle.og_syntax.specs.Reader.{conj_of, cond_of, compare, relate, relation, atom_of, neg_in, cond}
 use Rattle.og_syntax.specs.Clauses.{all_of, any_of}
 use Rattle.og_syntax.specs.Grammar.{IsConjOf, IsCondOf, IsCompare, IsRelate, IsRelation, IsAtomOf, IsNegIn, IsCond}
 use Rattle.og_syntax.specs.Follow.{after_expr, after_conj, after_cond}
 use Rattle.og_syntax.proofs.Exact.{Exact, exact-never, exact-worded, exact-bind, exact-then, exact-after, exact-map, exact-loose, exact-any, exact-choose, exact-joined, exact-single, exact-pair}
-use Rattle.og_syntax.proofs.Loops.{IsPart, is_part, after_sort}
 use Rattle.og_syntax.proofs.ExpressionRules.{expr_begins, exact-expr}
 
 -- what an atom begins with
@@ -85,15 +84,3 @@ exact-cond script strict = record {
   complete = λ ts. (exact-cond_of (exact-neg_in script strict (length ts))).complete ts;
   lead = λ ts. (exact-cond_of (exact-neg_in script strict (length ts))).lead ts;
 }
-
--- ---- the parts of lists of conditions
-
--- a part of a conjunction
-pub and_part : (script : List ℕ) (strict : Bool) (d : ℕ) → IsPart (after_sort k.And) (past k.And (neg_in script strict d))
-unfolding same_sort
-and_part script strict d = is_part (after_sort k.And) refl (exact-after k.And refl (exact-neg_in script strict d))
-
--- a part of a condition
-pub or_part : (script : List ℕ) (strict : Bool) (d : ℕ) → IsPart (after_sort k.Or) (past k.Or (conj_of (neg_in script strict d)))
-unfolding same_sort
-or_part script strict d = is_part (after_sort k.Or) refl (exact-after k.Or refl (exact-conj_of (exact-neg_in script strict d)))

@@ -1,7 +1,7 @@
 -- Each reader of cores and of queries is its rule.
 use Rattle.std.proofs.Common.{ℕ, Bool, true, false, List, refl}
 use Rattle.og_syntax.specs.declared.lexeme.Sort.TheVariants as k
-use Rattle.og_syntax.specs.Lexemes.{is, same_sort, sort_at}
+use Rattle.og_syntax.specs.Lexemes.{is, same_sort}
 use Rattle.og_syntax.specs.Meanings.{set_op_of}
 use Rattle.og_syntax.specs.Reading.{has}
 use Rattle.og_syntax.specs.Clauses.{core_of, rest_of, query_of}
@@ -9,7 +9,6 @@ use Rattle.og_syntax.specs.Reader.{core, further_core, query}
 use Rattle.og_syntax.specs.Grammar.{IsCore, IsFurtherCore, IsQuery}
 use Rattle.og_syntax.specs.Follow.{after_core, after_query}
 use Rattle.og_syntax.proofs.Exact.{Exact, exact-worded, exact-bind, exact-then, exact-after, exact-map, exact-loose, exact-ends, exact-optional, exact-more}
-use Rattle.og_syntax.proofs.Loops.{IsPart, is_part}
 use Rattle.og_syntax.proofs.QueryRules.{exact-items, exact-tables}
 use Rattle.og_syntax.proofs.WhereRules.{exact-wcond}
 
@@ -37,8 +36,3 @@ exact-query script strict true =
     exact-loose (exact-bind (exact-core script strict true) (λ x. exact-map (exact-more (exact-further_core script strict true) refl) (query_of x)) refl) refl refl
 exact-query script strict false =
     exact-loose (exact-bind (exact-core script strict false) (λ x. exact-map (exact-more (exact-further_core script strict false) refl) (query_of x)) refl) refl refl
-
--- a part of a query
-pub core_part : (script : List ℕ) (strict live : Bool) → IsPart (λ ts. has (set_op_of live) (sort_at ts)) (further_core script strict live)
-core_part script strict true = is_part (λ ts. has (set_op_of true) (sort_at ts)) refl (exact-further_core script strict true)
-core_part script strict false = is_part (λ ts. has (set_op_of false) (sort_at ts)) refl (exact-further_core script strict false)

@@ -6,13 +6,11 @@ use Rattle.og_syntax.specs.declared.lexeme.Lexeme.{Lexeme}
 use Rattle.og_syntax.specs.declared.tree.ItemsText.TheVariants as i
 use Rattle.og_syntax.specs.declared.tree.SemiText.{SemiText}
 use Rattle.og_syntax.specs.Lexemes.{is, same_sort, sort_at, sees}
-use Rattle.og_syntax.specs.Reading.{past}
 use Rattle.og_syntax.specs.Clauses.{item_of, table_of, semi_of}
 use Rattle.og_syntax.specs.Reader.{as_name, alias, fitem, item, item_list, items, goes_on, first_table, joined_table, further_table, tables, sub, semi, semis, begins_semi}
 use Rattle.og_syntax.specs.Grammar.{IsAlias, IsFitem, IsItem, IsItemList, IsItems, IsFirstTable, IsJoinedTable, IsFurtherTable, IsTables, IsSub, IsSemi, IsSemis}
 use Rattle.og_syntax.specs.Follow.{after_cond, after_alias, after_item, after_items, after_table, after_tables, after_sub, after_semis, ahead, anything}
 use Rattle.og_syntax.proofs.Exact.{Exact, same_self, right_of, not_true, or_left, or_right, shrinks, exact-pure, exact-tok, exact-bind, exact-after, exact-map, exact-loose, exact-ends, exact-any, exact-choose, exact-choose_if, exact-optional, exact-joined, exact-single}
-use Rattle.og_syntax.proofs.Loops.{IsPart, is_part, after_sort}
 use Rattle.og_syntax.proofs.LiteralRules.{exact-name}
 use Rattle.og_syntax.proofs.ExpressionRules.{expr_begins, exact-expr, two_lexemes}
 use Rattle.og_syntax.proofs.ConditionRules.{exact-cond}
@@ -132,20 +130,3 @@ semi_comes script strict ts x rest (inr h) =
 pub semis_come : (script : List ℕ) (strict : Bool) (ts : List Lexeme) (xs : List SemiText) (rest : List Lexeme) → IsSemis script strict ts xs rest → begins_semi ts ≡ true
 unfolding IsSemis
 semis_come script strict ts xs rest h = semi_comes script strict ts h.0 h.1 h.2
-
--- ---- the parts of lists
-
--- a part of the items
-pub comma_part : (script : List ℕ) (strict : Bool) → IsPart (after_sort k.Comma) (past k.Comma (item script strict))
-unfolding same_sort
-comma_part script strict = is_part (after_sort k.Comma) refl (exact-after k.Comma refl (exact-item script strict))
-
--- a part of the tables
-pub table_part : (script : List ℕ) (strict : Bool) → IsPart (λ ts. goes_on (sort_at ts)) (further_table script strict)
-unfolding same_sort
-table_part script strict = is_part (λ ts. goes_on (sort_at ts)) refl (exact-further_table script strict)
-
--- a part of the conditions of EXISTS
-pub semi_part : (script : List ℕ) (strict : Bool) → IsPart (after_sort k.And) (past k.And (semi script strict))
-unfolding same_sort
-semi_part script strict = is_part (after_sort k.And) refl (exact-after k.And refl (exact-semi script strict))

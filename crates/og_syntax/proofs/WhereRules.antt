@@ -11,11 +11,10 @@ use Rattle.og_syntax.specs.Reading.{Reads, got, and_then, past, more_if, more_if
 use Rattle.og_syntax.specs.Rules as rules_
 use Rattle.og_syntax.specs.Rules.{Rule, Tok, Past, Many, Joined, ◌or◌}
 use Rattle.og_syntax.specs.Clauses.{all_of, any_of, Where, before_semis}
-use Rattle.og_syntax.specs.Reader.{neg_in, semis, begins_semi, and_neg, where_end, wcond_of, wcond}
+use Rattle.og_syntax.specs.Reader.{semis, begins_semi, and_neg, where_end, wcond_of, wcond}
 use Rattle.og_syntax.specs.Grammar.{IsConjOf, IsCondOf, IsNegIn, IsSemis, IsWcondOf, IsWcond}
 use Rattle.og_syntax.specs.Follow.{after_expr, after_conj, after_cond, ahead, anything}
 use Rattle.og_syntax.proofs.Exact.{Exact, not_true, not_false, both_of, left_of, right_of, or_left, same_self, got_same, shrinks, bind_sound, bind_lead, if_sound, more_sound, more_complete, many_ahead, exact-pure, exact-tok, exact-bind, exact-after, exact-map, exact-loose, exact-ends, exact-choose, exact-more}
-use Rattle.og_syntax.proofs.Loops.{IsPart, is_part}
 use Rattle.og_syntax.proofs.ExpressionRules.{apart_from, other_first, other_second}
 use Rattle.og_syntax.proofs.ConditionRules.{atom_begins, neg_begins, exact-conj_of, exact-cond_of, exact-atom_of, exact-neg_in, exact-cond}
 use Rattle.og_syntax.proofs.QueryRules.{semi_begins, exact-semis, semis_come}
@@ -266,10 +265,3 @@ exact-wcond script strict false = record {
   complete = λ ts. (exact-wcond_of script strict (exact-neg_in script strict (length ts)) (neg_no_semi script strict (length ts))).complete ts;
   lead = λ ts. (exact-wcond_of script strict (exact-neg_in script strict (length ts)) (neg_no_semi script strict (length ts))).lead ts;
 }
-
--- ---- the parts of lists
-
--- a part of the conditions before those of EXISTS
-pub and_neg_part : (script : List ℕ) (strict : Bool) (d : ℕ) → IsPart and_neg (past k.And (neg_in script strict d))
-unfolding and_neg sees same_sort
-and_neg_part script strict d = is_part and_neg refl (exact-after k.And refl (exact-neg_in script strict d))

@@ -45,6 +45,7 @@ fn condition_in<'a>(
 
 // Further conjunctions, each after OR, behind the parts that were read before.
 #[cycle(conditions)]
+#[tactic(auto, using(crate::proofs::Loops::turns), unfolding(crate::specs::Reading::more_if))]
 pub fn more_conjunctions_in<'a>(
     reading: &Reading<'_>,
     lexemes: &'a [Lexeme],
@@ -55,12 +56,27 @@ pub fn more_conjunctions_in<'a>(
 {
     let mut parts = parts;
     let mut rest = lexemes;
-    'more: while same_sort(sort_at(rest), Sort::Or) {
-        let (part, left) = conjunction_in(reading, after(rest), depth)?;
+    let mut turns = lexemes.len();
+    'more: while turns > 0 && same_sort(sort_at(rest), Sort::Or) {
+        let (part, left) = further_conjunction_in(reading, rest, depth)?;
         parts.push(part)?;
         rest = left;
+        turns -= 1;
     }
     Ok((parts, rest))
+}
+
+// A conjunction after OR, whose negations are nested no deeper than the number.
+#[cycle(conditions)]
+fn further_conjunction_in<'a>(
+    reading: &Reading<'_>,
+    lexemes: &'a [Lexeme],
+    depth: usize,
+) -> Result<(CondText, &'a [Lexeme]), Refusal>
+    ensures { Gives result (past Sort.Or (spec.conj_of (by reading.now spec.neg_in depth)) lexemes.now) }
+{
+    let rest = expect(lexemes, Sort::Or)?;
+    conjunction_in(reading, rest, depth)
 }
 
 // Negations with AND between them, nested no deeper than the number.
@@ -81,6 +97,7 @@ fn conjunction_in<'a>(
 
 // Further negations, each after AND, behind the parts that were read before.
 #[cycle(conditions)]
+#[tactic(auto, using(crate::proofs::Loops::turns), unfolding(crate::specs::Reading::more_if))]
 fn more_negations_in<'a>(
     reading: &Reading<'_>,
     lexemes: &'a [Lexeme],
@@ -91,12 +108,27 @@ fn more_negations_in<'a>(
 {
     let mut parts = parts;
     let mut rest = lexemes;
-    'more: while same_sort(sort_at(rest), Sort::And) {
-        let (part, left) = negation_in(reading, after(rest), depth)?;
+    let mut turns = lexemes.len();
+    'more: while turns > 0 && same_sort(sort_at(rest), Sort::And) {
+        let (part, left) = further_negation_in(reading, rest, depth)?;
         parts.push(part)?;
         rest = left;
+        turns -= 1;
     }
     Ok((parts, rest))
+}
+
+// A negation after AND, nested no deeper than the number.
+#[cycle(conditions)]
+pub fn further_negation_in<'a>(
+    reading: &Reading<'_>,
+    lexemes: &'a [Lexeme],
+    depth: usize,
+) -> Result<(CondText, &'a [Lexeme]), Refusal>
+    ensures { Gives result (past Sort.And (by reading.now spec.neg_in depth) lexemes.now) }
+{
+    let rest = expect(lexemes, Sort::And)?;
+    negation_in(reading, rest, depth)
 }
 
 // An atom after any number of NOT, nested no deeper than the number.

@@ -1,19 +1,19 @@
 //! What a SELECT gives.
 ghost use Rattle.std.specs.Prelude.{◌≡◌, ◌∷◌, [], None, Some};
 ghost use Rattle.og_syntax.specs.declared.lexeme.Sort.{Sort};
-ghost use Rattle.og_syntax.specs.Lexemes.{is};
-ghost use Rattle.og_syntax.specs.Reading.{Gives, by, past, more, optional, with_front};
+ghost use Rattle.og_syntax.specs.Lexemes.{is, sort_at};
+ghost use Rattle.og_syntax.specs.Reading.{Gives, by, past, optional};
 ghost use Rattle.og_syntax.specs.Reader as spec;
 
 use crate::expressions::expression;
 use crate::lexeme::{Lexeme, Sort};
+use crate::parts::{Parts, more_parts};
 use crate::reading::Reading;
 use crate::refusal::Refusal;
 use crate::spelling::name;
-use crate::step::{after, expect, list_of, same_sort, sort_at};
+use crate::step::{expect, list_of, same_sort, sort_at};
 use crate::tree::{ItemText, ItemsText};
 use og_value::Name;
-use sqlite_items::Items;
 
 // All columns, or a list of items.
 #[tactic(auto, unfolding(crate::specs::Reader::items, crate::specs::Reader::item_list))]
@@ -29,26 +29,33 @@ pub fn items<'a>(
     }
     let (first, rest) = item(reading, lexemes)?;
     let parts = list_of(reading.alloc, first)?;
-    let (parts, rest) = more_items(reading, rest, parts)?;
+    let (parts, rest) = more_parts(reading, &FurtherItems, rest, parts)?;
     Ok((ItemsText::List(parts), rest))
 }
 
-// Further items, each after a comma, behind the parts that were read before.
-fn more_items<'a>(
-    reading: &Reading<'_>,
-    lexemes: &'a [Lexeme],
-    parts: Items<ItemText>,
-) -> Result<(Items<ItemText>, &'a [Lexeme]), Refusal>
-    ensures { Gives result (with_front parts (more (is Sort.Comma) (past Sort.Comma (by reading.now spec.item)) lexemes.now)) }
-{
-    let mut parts = parts;
-    let mut rest = lexemes;
-    'more: while same_sort(sort_at(rest), Sort::Comma) {
-        let (part, left) = item(reading, after(rest))?;
-        parts.push(part)?;
-        rest = left;
+// Further items, each after a comma.
+#[derive(Clone, Copy)]
+struct FurtherItems;
+
+impl Parts for FurtherItems {
+    type Part = ItemText;
+
+    ghost begins = { λ _ ts. is Sort.Comma (sort_at ts) };
+
+    ghost part = { λ _ script strict. past Sort.Comma (spec.item script strict) };
+
+    fn begins(&self, lexemes: &[Lexeme]) -> bool {
+        same_sort(sort_at(lexemes), Sort::Comma)
     }
-    Ok((parts, rest))
+
+    fn part<'a>(
+        &self,
+        reading: &Reading<'_>,
+        lexemes: &'a [Lexeme],
+    ) -> Result<(ItemText, &'a [Lexeme]), Refusal> {
+        let rest = expect(lexemes, Sort::Comma)?;
+        item(reading, rest)
+    }
 }
 
 // An expression, with the name that AS gives it.

@@ -7,7 +7,8 @@
 //! Strictly, the text after DATE, ONGOING and PERIOD has to be of its form; leniently, a number
 //! stands for any text there (`Literals`). `copy` of a tree equals its source. What stands between
 //! quotes is the content of the lexeme's bytes as og_lex has it (`IsContent` in specs/Spans.antt).
-//! `sort_of_word` and `word_of` go by the one list of the reserved words (`reserved` in
+//! `more_parts` reads the parts of a list, of which a type of `Parts` says where one begins and how
+//! it is read. `sort_of_word` and `word_of` go by the one list of the reserved words (`reserved` in
 //! specs/Words.antt).
 //!
 //! No tests here: scripts reach it, so the cases test it (docs/CASES.md).
@@ -20,6 +21,7 @@ mod laws;
 mod lexeme;
 mod literals;
 mod meaning;
+mod parts;
 mod queries;
 mod reading;
 mod refusal;
@@ -36,6 +38,7 @@ pub use expressions::expression;
 pub use laws::readers_are_rules;
 pub use lexeme::{Lexeme, Sort};
 pub use literals::literal;
+pub use parts::{Parts, more_parts};
 pub use queries::query;
 pub use reading::{Literals, Reading};
 pub use refusal::Refusal;

@@ -3,13 +3,14 @@ ghost use Rattle.std.specs.Prelude.{◌≡◌, ◌∷◌, [], None, Some};
 ghost use Rattle.og_syntax.specs.declared.lexeme.Sort.{Sort};
 ghost use Rattle.og_syntax.specs.Lexemes.{is, sort_at};
 ghost use Rattle.og_syntax.specs.Meanings.{set_op_of};
-ghost use Rattle.og_syntax.specs.Reading.{Gives, by, has, more, optional, past, with_front};
+ghost use Rattle.og_syntax.specs.Reading.{Gives, by, has, optional, past};
 ghost use Rattle.og_syntax.specs.Clauses as clauses;
 ghost use Rattle.og_syntax.specs.Reader as spec;
 
 use crate::items::items;
 use crate::lexeme::{Lexeme, Sort};
 use crate::meaning::set_op_of;
+use crate::parts::{Parts, more_parts};
 use crate::reading::Reading;
 use crate::refusal::Refusal;
 use crate::step::{after, expect, followed, same_sort, sort_at};
@@ -31,7 +32,12 @@ pub fn query<'a>(
     ensures { Gives result (by reading.now spec.query live lexemes.now) }
 {
     let (first, rest) = query_core(reading, live, lexemes)?;
-    match more_cores(reading, live, rest, Items::new(reading.alloc)) {
+    match more_parts(
+        reading,
+        &FurtherCores { live },
+        rest,
+        Items::new(reading.alloc),
+    ) {
         Ok((others, rest)) => Ok((
             QueryText {
                 first,
@@ -46,39 +52,35 @@ pub fn query<'a>(
     }
 }
 
-// Further cores, behind the parts that were read before.
-fn more_cores<'a>(
-    reading: &Reading<'_>,
+// Further cores, each after its operator.
+#[derive(Clone, Copy)]
+struct FurtherCores {
     live: bool,
-    lexemes: &'a [Lexeme],
-    parts: Items<RestText>,
-) -> Result<(Items<RestText>, &'a [Lexeme]), Refusal>
-    ensures { Gives result (with_front parts (more (has (set_op_of live)) (by reading.now spec.further_core live) lexemes.now)) }
-{
-    let mut parts = parts;
-    let mut rest = lexemes;
-    'more: while set_op_of(live, sort_at(rest)).is_some() {
-        let (part, left) = further_core(reading, live, rest)?;
-        parts.push(part)?;
-        rest = left;
-    }
-    Ok((parts, rest))
 }
 
-// A core after its operator.
-#[tactic(auto, unfolding(crate::specs::Reader::further_core, crate::specs::Reading::worded))]
-fn further_core<'a>(
-    reading: &Reading<'_>,
-    live: bool,
-    lexemes: &'a [Lexeme],
-) -> Result<(RestText, &'a [Lexeme]), Refusal>
-    ensures { Gives result (by reading.now spec.further_core live lexemes.now) }
-{
-    let Some(op) = set_op_of(live, sort_at(lexemes)) else {
-        return Err(Refusal::Syntax);
-    };
-    let (core, rest) = query_core(reading, live, after(lexemes))?;
-    Ok((RestText { op, core }, rest))
+impl Parts for FurtherCores {
+    type Part = RestText;
+
+    ghost begins = { λ kind ts. has (set_op_of kind.live) (sort_at ts) };
+
+    ghost part = { λ kind script strict. spec.further_core script strict kind.live };
+
+    fn begins(&self, lexemes: &[Lexeme]) -> bool {
+        set_op_of(self.live, sort_at(lexemes)).is_some()
+    }
+
+    #[tactic(auto, unfolding(crate::specs::Reader::further_core, crate::specs::Reading::worded))]
+    fn part<'a>(
+        &self,
+        reading: &Reading<'_>,
+        lexemes: &'a [Lexeme],
+    ) -> Result<(RestText, &'a [Lexeme]), Refusal> {
+        let Some(op) = set_op_of(self.live, sort_at(lexemes)) else {
+            return Err(Refusal::Syntax);
+        };
+        let (core, rest) = query_core(reading, self.live, after(lexemes))?;
+        Ok((RestText { op, core }, rest))
+    }
 }
 
 // A SELECT.

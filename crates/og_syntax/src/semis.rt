@@ -1,13 +1,14 @@
 //! Conditions of EXISTS and NOT EXISTS.
 ghost use Rattle.std.specs.Prelude.{◌≡◌, ◌&&◌, ◌||◌, ◌∷◌, [], drop, None, Some, true, false};
 ghost use Rattle.og_syntax.specs.declared.lexeme.Sort.{Sort};
-ghost use Rattle.og_syntax.specs.Lexemes.{is, sees};
+ghost use Rattle.og_syntax.specs.Lexemes.{is, sees, sort_at};
 ghost use Rattle.og_syntax.specs.Clauses.{semi_of};
-ghost use Rattle.og_syntax.specs.Reading.{Gives, by, bind, past, pure, more, optional, single, with_front};
+ghost use Rattle.og_syntax.specs.Reading.{Gives, by, bind, past, pure, optional, single};
 ghost use Rattle.og_syntax.specs.Reader as spec;
 
 use crate::conditions::condition;
 use crate::lexeme::{Lexeme, Sort};
+use crate::parts::{Parts, more_parts};
 use crate::reading::Reading;
 use crate::refusal::Refusal;
 use crate::step::{after, expect, followed, list_of, same_sort, sees, sort_at};
@@ -25,25 +26,32 @@ pub fn semis<'a>(
 {
     let (first, rest) = semi(reading, lexemes)?;
     let parts = list_of(reading.alloc, first)?;
-    more_semis(reading, rest, parts)
+    more_parts(reading, &FurtherSemis, rest, parts)
 }
 
-// Further ones, each after AND, behind the parts that were read before.
-fn more_semis<'a>(
-    reading: &Reading<'_>,
-    lexemes: &'a [Lexeme],
-    parts: Items<SemiText>,
-) -> Result<(Items<SemiText>, &'a [Lexeme]), Refusal>
-    ensures { Gives result (with_front parts (more (is Sort.And) (past Sort.And (by reading.now spec.semi)) lexemes.now)) }
-{
-    let mut parts = parts;
-    let mut rest = lexemes;
-    'more: while same_sort(sort_at(rest), Sort::And) {
-        let (part, left) = semi(reading, after(rest))?;
-        parts.push(part)?;
-        rest = left;
+// Further ones, each after AND.
+#[derive(Clone, Copy)]
+struct FurtherSemis;
+
+impl Parts for FurtherSemis {
+    type Part = SemiText;
+
+    ghost begins = { λ _ ts. is Sort.And (sort_at ts) };
+
+    ghost part = { λ _ script strict. past Sort.And (spec.semi script strict) };
+
+    fn begins(&self, lexemes: &[Lexeme]) -> bool {
+        same_sort(sort_at(lexemes), Sort::And)
     }
-    Ok((parts, rest))
+
+    fn part<'a>(
+        &self,
+        reading: &Reading<'_>,
+        lexemes: &'a [Lexeme],
+    ) -> Result<(SemiText, &'a [Lexeme]), Refusal> {
+        let rest = expect(lexemes, Sort::And)?;
+        semi(reading, rest)
+    }
 }
 
 // Whether EXISTS or NOT EXISTS comes.

@@ -1,12 +1,13 @@
 //! Names of tables with their aliases, and what stands after FROM.
 ghost use Rattle.std.specs.Prelude.{◌≡◌, ◌&&◌, ◌||◌, ◌∷◌, [], drop, None, Some};
 ghost use Rattle.og_syntax.specs.Lexemes.{sees, sort_at};
-ghost use Rattle.og_syntax.specs.Reading.{Gives, by, bind, more, pure, with_front};
+ghost use Rattle.og_syntax.specs.Reading.{Gives, by, bind, pure};
 ghost use Rattle.og_syntax.specs.Clauses as clauses;
 ghost use Rattle.og_syntax.specs.Reader as spec;
 
 use crate::conditions::condition;
 use crate::lexeme::{Lexeme, Sort};
+use crate::parts::{Parts, more_parts};
 use crate::reading::Reading;
 use crate::refusal::Refusal;
 use crate::spelling::name;
@@ -67,25 +68,36 @@ pub fn tables<'a>(
 {
     let (first, rest) = first_table(reading, lexemes)?;
     let parts = list_of(reading.alloc, first)?;
-    more_tables(reading, rest, parts)
+    more_parts(reading, &FurtherTables, rest, parts)
 }
 
-// Further tables, behind the parts that were read before.
-fn more_tables<'a>(
-    reading: &Reading<'_>,
-    lexemes: &'a [Lexeme],
-    parts: Items<FromText>,
-) -> Result<(Items<FromText>, &'a [Lexeme]), Refusal>
-    ensures { Gives result (with_front parts (more spec.goes_on (by reading.now spec.further_table) lexemes.now)) }
-{
-    let mut parts = parts;
-    let mut rest = lexemes;
-    'more: while same_sort(sort_at(rest), Sort::Comma) || same_sort(sort_at(rest), Sort::Join) {
-        let (part, left) = further_table(reading, rest)?;
-        parts.push(part)?;
-        rest = left;
+// Further tables, each after a comma, or after JOIN with its condition.
+#[derive(Clone, Copy)]
+struct FurtherTables;
+
+impl Parts for FurtherTables {
+    type Part = FromText;
+
+    ghost begins = { λ _ ts. spec.goes_on (sort_at ts) };
+
+    ghost part = { λ _. spec.further_table };
+
+    fn begins(&self, lexemes: &[Lexeme]) -> bool {
+        same_sort(sort_at(lexemes), Sort::Comma) || same_sort(sort_at(lexemes), Sort::Join)
     }
-    Ok((parts, rest))
+
+    #[tactic(auto, unfolding(crate::specs::Reader::further_table))]
+    fn part<'a>(
+        &self,
+        reading: &Reading<'_>,
+        lexemes: &'a [Lexeme],
+    ) -> Result<(FromText, &'a [Lexeme]), Refusal> {
+        if same_sort(sort_at(lexemes), Sort::Comma) {
+            let rest = expect(lexemes, Sort::Comma)?;
+            return first_table(reading, rest);
+        }
+        joined_table(reading, lexemes)
+    }
 }
 
 // The first table, or one after a comma.
@@ -105,21 +117,6 @@ fn first_table<'a>(
         },
         rest,
     ))
-}
-
-// A table after a comma, or after JOIN with its condition.
-#[tactic(auto, unfolding(crate::specs::Reader::further_table))]
-fn further_table<'a>(
-    reading: &Reading<'_>,
-    lexemes: &'a [Lexeme],
-) -> Result<(FromText, &'a [Lexeme]), Refusal>
-    ensures { Gives result (by reading.now spec.further_table lexemes.now) }
-{
-    if same_sort(sort_at(lexemes), Sort::Comma) {
-        let rest = expect(lexemes, Sort::Comma)?;
-        return first_table(reading, rest);
-    }
-    joined_table(reading, lexemes)
 }
 
 // A table after JOIN, with its condition.

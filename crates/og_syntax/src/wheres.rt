@@ -2,12 +2,15 @@
 ghost use Rattle.std.specs.Prelude.{◌≡◌, ◌&&◌, ◌∷◌, [], not, drop, None, Some};
 ghost use Rattle.og_syntax.specs.declared.lexeme.Sort.{Sort};
 ghost use Rattle.og_syntax.specs.Lexemes.{sees};
-ghost use Rattle.og_syntax.specs.Reading.{Gives, by, past, more_if, with_front};
+ghost use Rattle.og_syntax.specs.Reading.{Gives, by, past};
 ghost use Rattle.og_syntax.specs.Clauses.{all_of, any_of};
 ghost use Rattle.og_syntax.specs.Reader as spec;
 
-use crate::conditions::{all_of, any_of, condition, more_conjunctions_in, negation_in};
+use crate::conditions::{
+    all_of, any_of, condition, further_negation_in, more_conjunctions_in, negation_in,
+};
 use crate::lexeme::{Lexeme, Sort};
+use crate::parts::{Parts, more_parts};
 use crate::reading::Reading;
 use crate::refusal::Refusal;
 use crate::semis::{begins_semi, semis};
@@ -49,47 +52,36 @@ fn where_in<'a>(
     }
     let (first, rest) = negation_in(reading, lexemes, depth)?;
     let parts = list_of(reading.alloc, first)?;
-    let (parts, rest) = more_before_semis(reading, rest, depth, parts)?;
+    let (parts, rest) = more_parts(reading, &FurtherNegations { depth }, rest, parts)?;
     where_end(reading, rest, depth, parts)
 }
 
-// Further negations, each after AND, behind the parts that were read before.
-fn more_before_semis<'a>(
-    reading: &Reading<'_>,
-    lexemes: &'a [Lexeme],
+// Further negations, each after AND, where neither EXISTS nor NOT EXISTS comes, and nested no deeper
+// than the number.
+#[derive(Clone, Copy)]
+struct FurtherNegations {
     depth: usize,
-    parts: Items<CondText>,
-) -> Result<(Items<CondText>, &'a [Lexeme]), Refusal>
-    ensures { Gives result (with_front parts (more_if spec.and_neg (past Sort.And (by reading.now spec.neg_in depth)) lexemes.now)) }
-{
-    let mut parts = parts;
-    let mut rest = lexemes;
-    'more: while and_negation(rest) {
-        let (part, left) = further_negation(reading, rest, depth)?;
-        parts.push(part)?;
-        rest = left;
+}
+
+impl Parts for FurtherNegations {
+    type Part = CondText;
+
+    ghost begins = { λ _. spec.and_neg };
+
+    ghost part = { λ kind script strict. past Sort.And (spec.neg_in script strict kind.depth) };
+
+    #[tactic(auto, unfolding(crate::specs::Reader::and_neg))]
+    fn begins(&self, lexemes: &[Lexeme]) -> bool {
+        sees(lexemes, Sort::And) && !begins_semi(after(lexemes))
     }
-    Ok((parts, rest))
-}
 
-// Whether AND comes, and neither EXISTS nor NOT EXISTS after it.
-#[tactic(auto, unfolding(crate::specs::Reader::and_neg))]
-fn and_negation(lexemes: &[Lexeme]) -> bool
-    ensures { result ≡ spec.and_neg lexemes.now }
-{
-    sees(lexemes, Sort::And) && !begins_semi(after(lexemes))
-}
-
-// A negation after AND.
-fn further_negation<'a>(
-    reading: &Reading<'_>,
-    lexemes: &'a [Lexeme],
-    depth: usize,
-) -> Result<(CondText, &'a [Lexeme]), Refusal>
-    ensures { Gives result (past Sort.And (by reading.now spec.neg_in depth) lexemes.now) }
-{
-    let rest = expect(lexemes, Sort::And)?;
-    negation_in(reading, rest, depth)
+    fn part<'a>(
+        &self,
+        reading: &Reading<'_>,
+        lexemes: &'a [Lexeme],
+    ) -> Result<(CondText, &'a [Lexeme]), Refusal> {
+        further_negation_in(reading, lexemes, self.depth)
+    }
 }
 
 // Conditions of EXISTS after AND, or further conjunctions after OR, behind negations with AND between them.
