@@ -15,9 +15,10 @@ use Rattle.og_faults.specs.declared.fault.Fault.TheVariants as faults
 use Rattle.og_faults.specs.declared.stop.Stop.{Stop}
 use Rattle.og_faults.specs.declared.stop.Stop.TheVariants as stops
 use Rattle.og_session.specs.Ends.{Ends, EndsWith, IsEndOf, IsWhole}
-use Rattle.og_session.specs.Headline.{AreTold, AreUnfailed, Call, HasCause, HasOutput, HasState, HasStatus, HasStop, Headline, IsAsDefined, IsCause, IsComplete, IsCut, IsDefined, IsOneOf, IsStateOf, IsStop, IsStopped, IsTold, next_piece}
+use Rattle.og_session.specs.Headline.{AreTold, AreUnfailed, Call, HasCause, HasGrown, HasState, HasStatus, HasStop, Headline, IsAsDefined, IsCause, IsComplete, IsCut, IsDefined, IsOneOf, IsOutput, IsStateOf, IsStop, IsStopped, IsTold, next_piece}
 use Rattle.og_session.specs.Output.{piece_of, output_from}
 use Rattle.og_session.specs.Runs.{Run, IsDefinedRun, IsRun, output}
+use Rattle.og_session.proofs.EndLemmas.{unmissed}
 use Rattle.og_session.proofs.StopLemmas.{one_of_three}
 use Rattle.og_session.proofs.RunLemmas.{output_from-append}
 
@@ -202,8 +203,8 @@ module _ (call : Call) (end : Result (Unit {0}) Stop) (is : call.status ≡ stat
 
   -- a status of a device comes where its count rose, and wherever it went up
   caused : (n : ℕ) (b : Bool) (old new : ℕ) → (b ≡ true → status_of end ≡ n) → (status_of end ≡ n → b ≡ true) → IsFaultCount b old new → IsCause n old new call
-  caused n true old new to from counted = record { cause = λ e. counted.1; told = λ up. is ∙ to refl }
-  caused n false old new to from counted = record { cause = λ e. cc (from (sym is ∙ e)); told = λ up. absurd (omega (arith, up, counted)) }
+  caused n true old new to from counted = record { cause = λ e. counted.1; told = λ up. is ∙ to refl; kept = counted.0 }
+  caused n false old new to from counted = record { cause = λ e. cc (from (sym is ∙ e)); told = λ up. absurd (omega (arith, up, counted)); kept = omega (arith, counted) }
 
   -- each device has a status of its own
   read_is : (is_read_fault end ≡ true → status_of end ≡ 6) × (status_of end ≡ 6 → is_read_fault end ≡ true)
@@ -290,7 +291,8 @@ module _ (call : Call) (end : Result (Unit {0}) Stop) (is : call.status ≡ stat
       (reads : IsFaultCount (is_read_fault end) call.read_faults call.read_faults_after)
       (files : IsFaultCount (is_file_fault end) call.file_faults call.file_faults_after)
       (writes : IsFaultCount (is_write_fault end) call.write_faults call.write_faults_after)
-      (absences : IsAbsenceCount end call.absences call.absences_after) where
+      (absences : IsAbsenceCount end call.absences call.absences_after)
+      (grown : HasGrown call.written call.written_after) where
     -- how the call ended, by its one defined run
     at : (source : List ℕ) (start : Folder) → AreTold call source start → (run : Run) → IsDefined call source start run
         → (text : List ℕ) × Appends call.written call.written_after text × Ends run start call.db call.folder_after text end
@@ -332,8 +334,8 @@ module _ (call : Call) (end : Result (Unit {0}) Stop) (is : call.status ≡ stat
       script = λ source t e. end_is.script source t (sym is ∙ e);
     }
 
-    has_output : HasOutput call
-    has_output source start t =
+    is_output : (source : List ℕ) (start : Folder) → AreTold call source start → (text : List ℕ) × IsOutput call source start text
+    is_output source start t =
         let run = some call.words source start in
         let e = at source start t run.0 run.1 in (
           e.0,
@@ -364,6 +366,7 @@ module _ (call : Call) (end : Result (Unit {0}) Stop) (is : call.status ≡ stat
       file = file_cause;
       write = write_cause;
       absent = λ source start t run defined n file line five. let e = at source start t run defined in absent run start e.0 e.2 absences n file line five;
+      absences = unmissed end call.absences call.absences_after absences;
     }
 
     is_complete : IsComplete call
@@ -375,4 +378,4 @@ module _ (call : Call) (end : Result (Unit {0}) Stop) (is : call.status ≡ stat
 
     -- the headline
     pub headline : Headline call
-    headline = record { status = has_status; output = has_output; state = has_state; stop = has_stop; cause = has_cause; complete = is_complete }
+    headline = record { status = has_status; output = record { grown = grown; text = is_output }; state = has_state; stop = has_stop; cause = has_cause; complete = is_complete }

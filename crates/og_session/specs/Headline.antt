@@ -1,5 +1,5 @@
 -- The six clauses of the headline.
-use Rattle.std.specs.Prelude.{◌≡◌, ◌<◌, ◌⊎◌, ◌++◌, ⊤, ℕ, List, [], ◌∷◌, Option, Some, None, Contains, length}
+use Rattle.std.specs.Prelude.{◌≡◌, ◌<◌, ◌≤◌, ◌⊎◌, ◌++◌, ⊤, ℕ, List, [], ◌∷◌, Option, Some, None, Contains, length}
 use Rattle.std.specs.Io.KnownBytes.{Appends}
 use Rattle.og_base.specs.Told.{Rose, IsPrefix}
 use Rattle.og_io.specs.Folders.{Folder}
@@ -154,9 +154,10 @@ pub record IsOutput (call : Call) (source : List ℕ) (start : Folder) (text : L
 abbrev pub HasGrown : Option (List ℕ) → Option (List ℕ) → Type 0
 HasGrown old new = (text : List ℕ) × Appends old new text
 
--- output
-abbrev pub HasOutput : Call → Type 0
-HasOutput call = (source : List ℕ) (start : Folder) → AreTold call source start → (text : List ℕ) × IsOutput call source start text
+-- output: what stood in the sink stays, whatever is told; and where all is told, what was written is as defined
+pub record HasOutput (call : Call) : Type 0 where
+  pub grown : HasGrown call.written call.written_after
+  pub text : (source : List ℕ) (start : Folder) → AreTold call source start → (text : List ℕ) × IsOutput call source start text
 
 -- state: that after the statements that the defined run carries out, unless the run was stopped
 pub record HasState (call : Call) : Type 0 where
@@ -176,10 +177,11 @@ pub record IsStop (call : Call) (start : Folder) (text : List ℕ) (run : Run) :
 abbrev pub HasStop : Call → Type 0
 HasStop call = (source : List ℕ) (start : Folder) → AreTold call source start → (text : List ℕ) × ((run : Run) → IsDefined call source start run → IsStop call start text run)
 
--- a status of a device comes where its count of faults rose, and wherever the count went up
+-- a status of a device comes where its count of faults rose, and wherever the count went up; the count never falls
 pub record IsCause (status faults faults_after : ℕ) (call : Call) : Type 0 where
   pub cause : call.status ≡ status → Rose faults faults_after
   pub told : faults < faults_after → call.status ≡ status
+  pub kept : faults ≤ faults_after
 
 -- cause
 pub record HasCause (call : Call) : Type 0 where
@@ -189,6 +191,7 @@ pub record HasCause (call : Call) : Type 0 where
   pub write : IsCause 8 call.write_faults call.write_faults_after call
   pub absent : (source : List ℕ) (start : Folder) → AreTold call source start → (run : Run) → IsDefined call source start run
       → (n : ℕ) (file : List ℕ) → run.line ≡ no_file_line n file → call.status ≡ 5 → Rose call.absences call.absences_after
+  pub absences : call.absences ≤ call.absences_after
 
 -- no count of faults rose
 pub record AreUnfailed (call : Call) : Type 0 where

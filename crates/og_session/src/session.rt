@@ -1,6 +1,6 @@
 //! The top call: the words, the source and the files in, the output, the files, the database and the exit
 //! status out.
-ghost use Rattle.std.specs.Prelude.{◌≡◌, ◌≤◌, [], ◌∷◌, ℕ, List, Some, None, OnOk, IfErr};
+ghost use Rattle.std.specs.Prelude.{◌≡◌, [], ◌∷◌, ℕ, List, Some, None, OnOk, IfErr};
 ghost use Rattle.std.specs.Io.KnownBytes.{Appends};
 ghost use Rattle.og_io.specs.Folders.{Folder};
 ghost use Rattle.og_faults.specs.Counts.{IsAbsenceCount, IsFaultCount, is_file_fault, is_read_fault, is_unput, is_write_fault};
@@ -77,11 +77,6 @@ pub fn run<H: Threads + Sync, S: Source, K: Sink, F: Files>(
       status = result;
     }) }
     ensures untouched { ¬ IsRun words.now → src.new ≡ src.old }
-    ensures grown { HasGrown (K.written out.old) (K.written out.new) }
-    ensures read_count { S.faults src.old ≤ S.faults src.new }
-    ensures write_count { K.faults out.old ≤ K.faults out.new }
-    ensures file_count { F.faults files.old ≤ F.faults files.new }
-    ensures absence_count { F.absences files.old ≤ F.absences files.new }
 {
     run_gated(rt, alloc, words, src, out, files, db, &OpenGate)
 }
@@ -118,11 +113,6 @@ pub fn run_gated<H: Threads + Sync, S: Source, K: Sink, F: Files, G: Gate + Sync
       status = result;
     }) }
     ensures untouched { ¬ IsRun words.now → src.new ≡ src.old }
-    ensures grown { HasGrown (K.written out.old) (K.written out.new) }
-    ensures read_count { S.faults src.old ≤ S.faults src.new }
-    ensures write_count { K.faults out.old ≤ K.faults out.new }
-    ensures file_count { F.faults files.old ≤ F.faults files.new }
-    ensures absence_count { F.absences files.old ≤ F.absences files.new }
 {
     run_located(rt, alloc, words, src, out, files, db, gate).status
 }
@@ -162,11 +152,6 @@ pub fn run_located<H: Threads + Sync, S: Source, K: Sink, F: Files, G: Gate + Sy
     ensures place { (source : List ℕ) (start : Folder) (run : Run) → IsRun words.now → S.left src.old ≡ Some source → F.folder files.old ≡ Some start → IsDefinedRun words.now source start run →
         IsEndedAt source run.line result }
     ensures no_place { ¬ IsRun words.now → result.place ≡ None }
-    ensures grown { HasGrown (K.written out.old) (K.written out.new) }
-    ensures read_count { S.faults src.old ≤ S.faults src.new }
-    ensures write_count { K.faults out.old ≤ K.faults out.new }
-    ensures file_count { F.faults files.old ≤ F.faults files.new }
-    ensures absence_count { F.absences files.old ≤ F.absences files.new }
 {
     one_defined_run();
     let mut script = Vec::new(alloc);

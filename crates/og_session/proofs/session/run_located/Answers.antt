@@ -1,7 +1,5 @@
 use Rattle.std.proofs.Common.{◌∙◌, ap, subst}
 use Rattle.og_script.specs.Places.{IsPlaceOfEnd}
-use Rattle.og_session.proofs.EndLemmas.{unmissed}
-use Rattle.og_session.proofs.GrownLemmas.{faults_rise}
 use Rattle.og_session.proofs.HeadlineLemmas.{headline}
 use Rattle.og_session.proofs.PlaceLemmas.{ended_at, no_place}
 use Rattle.og_session.proofs.session.run_located.Goals as goal
@@ -10,7 +8,7 @@ pub returns-clause-headline : goal.returns-clause-headline
 returns-clause-headline g c =
     let end = c.run_to_end-end.ensures in
     headline _ c.run_to_end-end.result c.status_of-status.ensures c.one_defined_run.ensures.one c.one_defined_run.ensures.some end.told end.drained end.ended
-    (λ early. ((end.before early).0, ap g.F.Files.folder (end.before early).1)) end.reads end.files end.writes end.absences
+    (λ early. ((end.before early).0, ap g.F.Files.folder (end.before early).1)) end.reads end.files end.writes end.absences end.grown
 
 pub returns-clause-place : goal.returns-clause-place
 returns-clause-place g c source start run is left folder defined =
@@ -25,15 +23,3 @@ pub returns-clause-no_place : goal.returns-clause-no_place
 returns-clause-no_place g c none =
     no_place c.as_slice.result.now c.run_to_end-end.result c.place_of_end-place.result
     (c.as_slice.ensures.value ∙ c.run_to_end-end.ensures.none_kept none ∙ c.new-script.ensures.items) c.place_of_end-place.ensures
-
-pub returns-clause-read_count : goal.returns-clause-read_count
-returns-clause-read_count g c = faults_rise _ _ _ c.run_to_end-end.ensures.reads
-
-pub returns-clause-write_count : goal.returns-clause-write_count
-returns-clause-write_count g c = faults_rise _ _ _ c.run_to_end-end.ensures.writes
-
-pub returns-clause-file_count : goal.returns-clause-file_count
-returns-clause-file_count g c = faults_rise _ _ _ c.run_to_end-end.ensures.files
-
-pub returns-clause-absence_count : goal.returns-clause-absence_count
-returns-clause-absence_count g c = unmissed c.run_to_end-end.result _ _ c.run_to_end-end.ensures.absences
