@@ -4,6 +4,7 @@ pub mod Lexing
 pub mod Longest
 pub mod Meanings
 pub mod Numbers
+pub mod Parts
 pub mod Quotes
 pub mod Runs
 pub mod Scripts

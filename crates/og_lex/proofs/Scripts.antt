@@ -104,7 +104,7 @@ front-bad_byte z h = by (front z) (means-front z)
     by (Bad faults.NumberRange) m = absurd (h.in_range m)
 
 -- the fault of what stands at the front
-IsFaultAt-front : (at b : ℕ) (z : List ℕ) (fault : Fault) → front (b ∷ z) ≡ Bad fault → Means (b ∷ z) (Bad fault) → IsFaultAt (refusal_at fault at) at (b ∷ z)
+pub IsFaultAt-front : (at b : ℕ) (z : List ℕ) (fault : Fault) → front (b ∷ z) ≡ Bad fault → Means (b ∷ z) (Bad fault) → IsFaultAt (refusal_at fault at) at (b ∷ z)
 IsFaultAt-front at b z faults.OpenText e m = (refl, m)
 IsFaultAt-front at b z faults.NumberRange e m = (refl, m)
 IsFaultAt-front at b z faults.BadByte e m = (

@@ -45,3 +45,8 @@ IsFirstFault script fault = (tokens : List Token) × (at : ℕ) × (z : List ℕ
 abbrev pub IsRefusal : List ℕ → LexRefusal → Type 0
 IsRefusal script refusals.NoMemory = ⊤
 IsRefusal script fault = IsFirstFault script fault
+
+-- why no more tokens are taken from a place on: the first fault from there, or want of memory
+abbrev pub IsRefusalFrom : ℕ → List ℕ → LexRefusal → Type 0
+IsRefusalFrom from z refusals.NoMemory = ⊤
+IsRefusalFrom from z fault = (tokens : List Token) × (at : ℕ) × (rest : List ℕ) × Reads from z tokens at rest × IsFaultAt fault at rest

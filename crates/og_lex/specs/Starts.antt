@@ -1,5 +1,5 @@
 -- Where the statements of a script begin.
-use Rattle.std.specs.Prelude.{◌≡◌, ◌+◌, ◌≤◌, ℕ, zero, suc, Bool, true, false, if◌then◌else◌, List, [], ◌∷◌, drop, length, Option, Some, None, Ok, Err, ⊤}
+use Rattle.std.specs.Prelude.{◌≡◌, ◌+◌, ◌++◌, ◌≤◌, ℕ, zero, suc, Bool, true, false, if◌then◌else◌, List, [], ◌∷◌, drop, length, Option, Some, None, Ok, Err, ⊤}
 use Rattle.og_lex.specs.Front.{Lexed, lex_from}
 use Rattle.og_lex.specs.declared.start.Step.{Step}
 use Rattle.og_lex.specs.declared.start.Step.TheVariants as steps
@@ -18,6 +18,10 @@ abbrev pub start_after : ℕ → List Token → Option ℕ
 start_after n [] = None
 start_after zero (token ∷ tokens) = Some token.start
 start_after (suc n) (token ∷ tokens) = if is_semicolon token.kind then start_after n tokens else start_after (suc n) tokens
+
+-- the last token is a semicolon
+abbrev pub EndsStatement : List Token → Type 0
+EndsStatement tokens = (before : List Token) × (last : Token) × (tokens ≡ before ++ last ∷ []) × (last.kind ≡ Sym Semicolon)
 
 -- ---- beside private functions alone
 

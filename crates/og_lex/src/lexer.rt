@@ -1,11 +1,14 @@
 //! Scripts as lists of tokens.
-ghost use Rattle.std.specs.Prelude.{◌≡◌, ◌+◌, ◌<◌, ◌≤◌, ◌^◌, Ok, IfOk, IfErr, length, drop};
-ghost use Rattle.og_lex.specs.Faults.{IsRefusal};
+ghost use Rattle.std.specs.Prelude.{◌≡◌, ◌⊎◌, ◌+◌, ◌++◌, ◌<◌, ◌≤◌, ◌^◌, List, true, Ok, IfOk, IfErr, length, drop};
+ghost use Rattle.og_lex.specs.Faults.{IsRefusal, IsRefusalFrom};
 ghost use Rattle.og_lex.specs.Front as spec;
-ghost use Rattle.og_lex.specs.Grammar.{IsLexed};
+ghost use Rattle.og_lex.specs.Grammar.{IsLexed, Reads};
+ghost use Rattle.og_lex.specs.Starts.{EndsStatement};
+ghost use Rattle.og_lex.specs.declared.token.Token.{Token};
 
 use crate::front::{Front, front_of};
 use crate::refusal::{LexRefusal, refusal_at};
+use crate::start::is_semicolon;
 use crate::token::Token;
 use std::alloc::Global;
 
@@ -30,31 +33,73 @@ fn pieces(alloc: Global, script: &[u8]) -> Result<Vec<Token>, LexRefusal>
     let mut rest = script;
     let mut at = 0;
     'pieces: while !rest.is_empty() {
-        let len = take_piece(rest, at, &mut tokens)?;
-        let (_, after) = rest.split_at(len);
+        let taken = take_piece(rest, at, &mut tokens)?;
+        let (_, after) = rest.split_at(taken.len);
         rest = after;
-        at += len;
+        at += taken.len;
     }
     Ok(tokens)
 }
 
-// Takes what stands at the front, and gives its length.
-fn take_piece(z: &[u8], at: usize, tokens: &mut Vec<Token>) -> Result<usize, LexRefusal>
+/// Makes the list that of the tokens from the place on, in bytes from 0, up to a semicolon or to the end of
+/// the script, and gives the place after them. Refused as `lex`, at the first place from there on where no
+/// token can be taken.
+pub fn lex_part(script: &[u8], from: usize, tokens: &mut Vec<Token>) -> Result<usize, LexRefusal>
+    requires { from ≤ length script.now }
+    ensures read { IfOk result (λ end. Reads from (drop from script.now) tokens.new.items end (drop end script.now)) }
+    ensures within { IfOk result (λ end. (from ≤ end) × (end ≤ length script.now)) }
+    ensures forward { from < length script.now → IfOk result (λ end. from < end) }
+    ensures ends { IfOk result (λ end. (end ≡ length script.now) ⊎ EndsStatement tokens.new.items) }
+    ensures refused { IfErr result (IsRefusalFrom from (drop from script.now)) }
+{
+    tokens.clear();
+    let (_, mut rest) = script.split_at(from);
+    let mut at = from;
+    'pieces: while !rest.is_empty() {
+        let taken = take_piece(rest, at, tokens)?;
+        let (_, after) = rest.split_at(taken.len);
+        rest = after;
+        at += taken.len;
+        if taken.ends && tokens.len() >= PART {
+            return Ok(at);
+        }
+    }
+    Ok(at)
+}
+
+// How many tokens a part has at least, but for the last one.
+const PART: usize = 4_096;
+
+// What was taken: how many bytes, and whether they are a semicolon.
+#[derive(Clone, Copy, Debug)]
+struct Taken {
+    len: usize,
+    ends: bool,
+}
+
+// Takes what stands at the front.
+fn take_piece(z: &[u8], at: usize, tokens: &mut Vec<Token>) -> Result<Taken, LexRefusal>
     requires some { 0 < length z.now }
     requires small { at + length z.now < 2 ^ 63 }
-    ensures within { IfOk result (λ len. (1 ≤ len) × (len ≤ length z.now)) }
-    ensures taken { IfOk result (λ len. spec.with_front tokens.old.items (spec.lex_from at 0 z.now) ≡ spec.with_front tokens.new.items (spec.lex_from (at + len) 0 (drop len z.now))) }
+    ensures within { IfOk result (λ taken. (1 ≤ taken.len) × (taken.len ≤ length z.now)) }
+    ensures taken { IfOk result (λ taken. spec.with_front tokens.old.items (spec.lex_from at 0 z.now) ≡ spec.with_front tokens.new.items (spec.lex_from (at + taken.len) 0 (drop taken.len z.now))) }
+    ensures read { IfOk result (λ taken. (more : List Token) × (tokens.new.items ≡ tokens.old.items ++ more) × Reads at z.now more (at + taken.len) (drop taken.len z.now)) }
+    ensures ends { IfOk result (λ taken. taken.ends ≡ true → EndsStatement tokens.new.items) }
     ensures fault { IfErr result (λ refusal. spec.IsErrorOf refusal (spec.lex_from at 0 z.now)) }
+    ensures refused { IfErr result (IsRefusalFrom at z.now) }
 {
     match front_of(z) {
-        Front::Skip(len) => Ok(len),
+        Front::Skip(len) => Ok(Taken { len, ends: false }),
         Front::Piece(kind, len) => {
             tokens.push(Token {
                 kind,
                 start: at,
                 end: at + len,
             })?;
-            Ok(len)
+            Ok(Taken {
+                len,
+                ends: is_semicolon(kind),
+            })
         }
         Front::Bad(fault) => Err(refusal_at(fault, at)),
     }

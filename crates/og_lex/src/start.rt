@@ -54,8 +54,8 @@ fn next_step(z: &[u8], left: usize) -> Step
     }
 }
 
-// Whether the token is a semicolon.
-fn is_semicolon(kind: TokenKind) -> bool
+/// Whether the token is a semicolon.
+pub fn is_semicolon(kind: TokenKind) -> bool
     ensures { result ≡ spec.is_semicolon kind }
 {
     matches!(kind, TokenKind::Sym(Symbol::Semicolon))

@@ -1,3 +1,4 @@
 pub mod Lenient
+pub mod Parts
 pub mod Scripts
 pub mod StatementRules

@@ -165,33 +165,33 @@ some_piece t ts = go (same_sort t.sort k.Semicolon)
 -- ---- the loop over pieces
 
 -- what the rest of the pieces is makes out what all of them are
-pub record Leads (script : List ℕ) (all : List (List Lexeme)) (xs : List Stmt) (number : ℕ) (rest : List (List Lexeme)) : Type 0 where
+pub record Leads (script : List ℕ) (first : ℕ) (all : List (List Lexeme)) (xs : List Stmt) (number : ℕ) (rest : List (List Lexeme)) : Type 0 where
   pub good : (ys : List Stmt) → AreGood script rest ys → AreGood script all (xs ++ ys)
-  pub faulty : (fault : ParseRefusal) → HasFirstFault script number rest fault → HasFirstFault script 1 all fault
+  pub faulty : (fault : ParseRefusal) → HasFirstFault script number rest fault → HasFirstFault script first all fault
 
 -- at first all pieces are left
-pub leads_first : (script : List ℕ) (all : List (List Lexeme)) → Leads script all [] 1 all
-leads_first script all = record { good = λ ys h. h; faulty = λ fault h. h }
+pub leads_first : (script : List ℕ) (first : ℕ) (all : List (List Lexeme)) → Leads script first all [] first all
+leads_first script first all = record { good = λ ys h. h; faulty = λ fault h. h }
 
 -- one more piece is good
-pub leads_on : (script : List ℕ) (all rest left : List (List Lexeme)) (xs : List Stmt) (number : ℕ) (p : List Lexeme) (x : Stmt)
-    → rest ≡ p ∷ left → IsGood script p x → Leads script all xs number rest → Leads script all (xs ++ x ∷ []) (suc number) left
-leads_on script all rest left xs number p x e g l = record {
+pub leads_on : (script : List ℕ) (first : ℕ) (all rest left : List (List Lexeme)) (xs : List Stmt) (number : ℕ) (p : List Lexeme) (x : Stmt)
+    → rest ≡ p ∷ left → IsGood script p x → Leads script first all xs number rest → Leads script first all (xs ++ x ∷ []) (suc number) left
+leads_on script first all rest left xs number p x e g l = record {
   good = λ ys h. subst (AreGood script all) (sym (append_assoc xs (x ∷ []) ys)) (l.good (x ∷ ys) (subst (λ ps. AreGood script ps (x ∷ ys)) (sym e) (g, h)));
   faulty = λ fault h. l.faulty fault (subst (λ ps. HasFirstFault script number ps fault) (sym e) (inr (x, g, h)));
 }
 
 -- no piece is left
-pub leads_all : (script : List ℕ) (all rest : List (List Lexeme)) (xs : List Stmt) (number : ℕ) → rest ≡ [] → Leads script all xs number rest → AreGood script all xs
-leads_all script all rest xs number e l = subst (AreGood script all) (append-nil xs) (l.good [] (subst (λ ps. AreGood script ps []) (sym e) tt))
+pub leads_all : (script : List ℕ) (first : ℕ) (all rest : List (List Lexeme)) (xs : List Stmt) (number : ℕ) → rest ≡ [] → Leads script first all xs number rest → AreGood script all xs
+leads_all script first all rest xs number e l = subst (AreGood script all) (append-nil xs) (l.good [] (subst (λ ps. AreGood script ps []) (sym e) tt))
 
 -- a piece has a fault
-pub leads_fault : (script : List ℕ) (all rest left : List (List Lexeme)) (xs : List Stmt) (number : ℕ) (p : List Lexeme) (fault : ParseRefusal)
-    → rest ≡ p ∷ left → OrNoMemory (HasFault script number p) fault → Leads script all xs number rest → OrNoMemory (HasFirstFault script 1 all) fault
-leads_fault script all rest left xs number p (r.TooDeep at) e h l = l.faulty (r.TooDeep at) (subst (λ ps. HasFirstFault script number ps (r.TooDeep at)) (sym e) (inl h))
-leads_fault script all rest left xs number p (r.Syntax at) e h l = l.faulty (r.Syntax at) (subst (λ ps. HasFirstFault script number ps (r.Syntax at)) (sym e) (inl h))
-leads_fault script all rest left xs number p (r.Literal at) e h l = l.faulty (r.Literal at) (subst (λ ps. HasFirstFault script number ps (r.Literal at)) (sym e) (inl h))
-leads_fault script all rest left xs number p r.NoMemory e h l = tt
+pub leads_fault : (script : List ℕ) (first : ℕ) (all rest left : List (List Lexeme)) (xs : List Stmt) (number : ℕ) (p : List Lexeme) (fault : ParseRefusal)
+    → rest ≡ p ∷ left → OrNoMemory (HasFault script number p) fault → Leads script first all xs number rest → OrNoMemory (HasFirstFault script first all) fault
+leads_fault script first all rest left xs number p (r.TooDeep at) e h l = l.faulty (r.TooDeep at) (subst (λ ps. HasFirstFault script number ps (r.TooDeep at)) (sym e) (inl h))
+leads_fault script first all rest left xs number p (r.Syntax at) e h l = l.faulty (r.Syntax at) (subst (λ ps. HasFirstFault script number ps (r.Syntax at)) (sym e) (inl h))
+leads_fault script first all rest left xs number p (r.Literal at) e h l = l.faulty (r.Literal at) (subst (λ ps. HasFirstFault script number ps (r.Literal at)) (sym e) (inl h))
+leads_fault script first all rest left xs number p r.NoMemory e h l = tt
 
 -- where tokens are left their first piece is cut off
 pub cut_by : (script : List ℕ) (rest left : List Token) (p : List Lexeme) (n : ℕ) → (length rest == 0) ≡ false → p ≡ piece_of (lexemes_of script rest) → n ≡ length p → left ≡ drop n rest
@@ -223,21 +223,21 @@ pub shorter : (m n left rest : ℕ) → 1 ≤ m → n ≡ m → left + n ≡ res
 shorter m n left rest some same back = omega (arith, some, same, back)
 
 -- and the number of the statement stays small
-pub counted : (m n left rest number all : ℕ) → 1 ≤ m → n ≡ m → left + n ≡ rest → number + rest ≤ 1 + all → (number + 1) + left ≤ 1 + all
-counted m n left rest number all some same back before = omega (arith, some, same, back, before)
+pub counted : (m n left rest number first all : ℕ) → 1 ≤ m → n ≡ m → left + n ≡ rest → number + rest ≤ first + all → (number + 1) + left ≤ first + all
+counted m n left rest number first all some same back before = omega (arith, some, same, back, before)
 
 -- one more piece of tokens that were split is good
-pub one_more_piece : (script : List ℕ) (all : List (List Lexeme)) (rest left : List Token) (p : List Lexeme) (n : ℕ) (xs now : List Stmt) (number : ℕ) (x : Stmt)
-    → (length rest == 0) ≡ false → p ≡ piece_of (lexemes_of script rest) → n ≡ length p → left ≡ drop n rest → now ≡ xs ++ x ∷ [] → IsGood script p x → Leads script all xs number (pieces (lexemes_of script rest))
-    → Leads script all now (number + 1) (pieces (lexemes_of script left))
-one_more_piece script all rest left p n xs now number x some front len back e g l =
+pub one_more_piece : (script : List ℕ) (first : ℕ) (all : List (List Lexeme)) (rest left : List Token) (p : List Lexeme) (n : ℕ) (xs now : List Stmt) (number : ℕ) (x : Stmt)
+    → (length rest == 0) ≡ false → p ≡ piece_of (lexemes_of script rest) → n ≡ length p → left ≡ drop n rest → now ≡ xs ++ x ∷ [] → IsGood script p x → Leads script first all xs number (pieces (lexemes_of script rest))
+    → Leads script first all now (number + 1) (pieces (lexemes_of script left))
+one_more_piece script first all rest left p n xs now number x some front len back e g l =
     let same : suc number ≡ number + 1 = omega arith in
-    subst (λ zs. Leads script all zs (number + 1) (pieces (lexemes_of script left))) (sym e)
-    (subst (λ n. Leads script all (xs ++ x ∷ []) n (pieces (lexemes_of script left))) same
-    (leads_on script all (pieces (lexemes_of script rest)) (pieces (lexemes_of script left)) xs number p x (cut_by script rest left p n some front len back) g l))
+    subst (λ zs. Leads script first all zs (number + 1) (pieces (lexemes_of script left))) (sym e)
+    (subst (λ n. Leads script first all (xs ++ x ∷ []) n (pieces (lexemes_of script left))) same
+    (leads_on script first all (pieces (lexemes_of script rest)) (pieces (lexemes_of script left)) xs number p x (cut_by script rest left p n some front len back) g l))
 
 -- a piece of tokens that are left has a fault
-pub faulty_piece : (script : List ℕ) (all : List (List Lexeme)) (rest : List Token) (p : List Lexeme) (xs : List Stmt) (number : ℕ) (fault : ParseRefusal)
-    → (length rest == 0) ≡ false → p ≡ piece_of (lexemes_of script rest) → OrNoMemory (HasFault script number p) fault → Leads script all xs number (pieces (lexemes_of script rest)) → OrNoMemory (HasFirstFault script 1 all) fault
-faulty_piece script all rest p xs number fault some front h l =
-    leads_fault script all (pieces (lexemes_of script rest)) (pieces (lexemes_of script (drop (length p) rest))) xs number p fault (cut_by script rest (drop (length p) rest) p (length p) some front refl refl) h l
+pub faulty_piece : (script : List ℕ) (first : ℕ) (all : List (List Lexeme)) (rest : List Token) (p : List Lexeme) (xs : List Stmt) (number : ℕ) (fault : ParseRefusal)
+    → (length rest == 0) ≡ false → p ≡ piece_of (lexemes_of script rest) → OrNoMemory (HasFault script number p) fault → Leads script first all xs number (pieces (lexemes_of script rest)) → OrNoMemory (HasFirstFault script first all) fault
+faulty_piece script first all rest p xs number fault some front h l =
+    leads_fault script first all (pieces (lexemes_of script rest)) (pieces (lexemes_of script (drop (length p) rest))) xs number p fault (cut_by script rest (drop (length p) rest) p (length p) some front refl refl) h l

@@ -1,3 +1,4 @@
+pub mod Bytes
 pub mod Depth
 pub mod Pieces
 pub mod Script

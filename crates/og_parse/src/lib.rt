@@ -3,8 +3,9 @@
 //! `parse` gives exactly the statements that the statement grammar gives the tokens of a script
 //! (`IsScript` in specs/Script.antt, over specs/Statements.antt), or refuses with exactly the first
 //! fault and the number of its statement (`IsFirstFault`): too deep (specs/Depth.antt), else no
-//! statement, else one with a literal that is not of its form; or for want of memory. The laws say
-//! that tokens have one list of statements or one first fault, not both (`one_tree`,
+//! statement, else one with a literal that is not of its form; or for want of memory. `parse_bytes`
+//! gives the same of the bytes of a script (`IsScriptRefusal` in specs/Bytes.antt), of which it takes the
+//! tokens of some statements at a time. The laws say that tokens have one list of statements or one first fault, not both (`one_tree`,
 //! `tree_or_fault`), and that a strict statement is a lenient one (`strict_is_lenient`).
 //!
 //! No tests here: scripts reach it, so the cases test it (docs/CASES.md).
@@ -31,5 +32,5 @@ pub use og_syntax::{
     CondText, CoreText, ExprText, FromText, ItemText, ItemsText, QueryText, RestText, Script,
     SemiText, SetText, Stmt,
 };
-pub use parser::parse;
-pub use refusal::ParseRefusal;
+pub use parser::{parse, parse_bytes};
+pub use refusal::{ParseRefusal, ScriptRefusal};

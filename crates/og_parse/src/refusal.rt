@@ -2,6 +2,7 @@
 ghost use Rattle.std.specs.Prelude.{◌≡◌};
 
 use og_base::NoMemory;
+use og_lex::LexRefusal;
 use std::alloc::{AllocError, AllocFailed};
 use thiserror::Error;
 
@@ -51,5 +52,40 @@ impl From<NoMemory> for ParseRefusal {
 
     fn from(_: NoMemory) -> ParseRefusal {
         ParseRefusal::NoMemory
+    }
+}
+
+/// Why bytes are no script: the first place where they have no token, else the fault of the first statement
+/// that has one, or want of memory.
+#[derive(Clone, Copy, Debug, PartialEq, Eq, Error)]
+pub enum ScriptRefusal {
+    /// The bytes have no tokens.
+    #[error("{refusal}")]
+    Tokens { refusal: LexRefusal },
+    /// A statement has a fault.
+    #[error("{refusal}")]
+    Statement { refusal: ParseRefusal },
+    /// Memory ran out.
+    #[error("want of memory")]
+    NoMemory,
+}
+
+impl From<LexRefusal> for ScriptRefusal {
+    ghost use Rattle.og_parse.specs.declared.refusal.ScriptRefusal.{ScriptRefusal};
+
+    ghost from_gives = { λ refusal e. e ≡ ScriptRefusal.Tokens refusal };
+
+    fn from(refusal: LexRefusal) -> ScriptRefusal {
+        ScriptRefusal::Tokens { refusal }
+    }
+}
+
+impl From<AllocError> for ScriptRefusal {
+    ghost use Rattle.og_parse.specs.declared.refusal.ScriptRefusal.{ScriptRefusal};
+
+    ghost from_gives = { λ _ e. e ≡ ScriptRefusal.NoMemory };
+
+    fn from(_: AllocError) -> ScriptRefusal {
+        ScriptRefusal::NoMemory
     }
 }

@@ -14,8 +14,7 @@ use crate::commands::{at_statements, load_statements};
 use crate::source::read_source;
 use og_faults::Stop;
 use og_io::Source;
-use og_lex::lex;
-use og_parse::parse;
+use og_parse::{ScriptRefusal, parse_bytes};
 use og_syntax::Stmt;
 use og_words::Command;
 use sqlite_items::Items;
@@ -90,7 +89,10 @@ fn tree_of(alloc: Global, bytes: &[u8]) -> Result<Items<Stmt>, Stop>
     ensures stops { (workers : ℕ) → IfErr result (IsStopBefore (commands.Run workers)) }
     ensures read { is_read_fault result ≡ false }
 {
-    let tokens = lex(alloc, bytes)?;
-    let script = parse(alloc, bytes, tokens.as_slice())?;
-    Ok(script.stmts)
+    match parse_bytes(alloc, bytes) {
+        Ok(script) => Ok(script.stmts),
+        Err(ScriptRefusal::Tokens { refusal }) => Err(Stop::from(refusal)),
+        Err(ScriptRefusal::Statement { refusal }) => Err(Stop::from(refusal)),
+        Err(ScriptRefusal::NoMemory) => Err(Stop::NoMemory),
+    }
 }
