@@ -1,30 +1,34 @@
 -- Hits that are made of left rows and the right rows of their keys, and what is joined of them.
-use Rattle.std.proofs.Common.{◌≡◌, ◌++◌, ◌+◌, ◌*◌, ◌<◌, ◌≤◌, ◌&&◌, ◌↔◌, ℕ, suc, ℤ, Bool, true, false, List, [], ◌∷◌, length, get_or, filter, map, take, if◌then◌else◌, Ordering, refl, sym, ap, ap₂, ◌∙◌, subst, arith}
+use Rattle.std.proofs.Common.{◌≡◌, ◌++◌, ◌+◌, ◌*◌, ◌<◌, ◌≤◌, ◌&&◌, ◌↔◌, ℕ, ℤ, Bool, true, false, List, [], ◌∷◌, length, get_or, filter, map, take, ◌||◌, if◌then◌else◌, Ordering, refl, sym, ap, ap₂, ◌∙◌, subst, arith}
 use Rattle.std.specs.Cmp.{IsTotalOrder}
-use Rattle.std.specs.List.{All, Contains, list_any}
+use Rattle.std.specs.List.{All, Contains, flat_map, list_any}
+use Rattle.std.specs.List.Sorted.{IsPermutation}
 use Rattle.std.specs.Ordering.{eq_by_cmp}
 use Rattle.std.proofs.lemmas.Bool.{true≢false}
-use Rattle.std.proofs.lemmas.Grind.{flat_map-append}
 use Rattle.std.proofs.Math.Bool.{and-false}
-use Rattle.std.proofs.lemmas.List.{append-nil, append_assoc, get_or-map, length-append, length-map, map-append, take_more}
-use Rattle.std.proofs.lemmas.List.Elements.{All-contains, All-filter, All-head, All-push, All-same, All-tail}
+use Rattle.std.proofs.lemmas.List.{append_assoc, get_or-map, length-append, length-map, map-append, take_more}
+use Rattle.std.proofs.lemmas.List.Concat.{flat_map-cons}
+use Rattle.std.proofs.lemmas.List.Elements.{All-append, All-contains, All-head, All-nil, All-push, All-same, All-tail, All-weaker, Contains-append_left, Contains-append_right}
+use Rattle.std.proofs.lemmas.List.Folds.{list_any-append}
+use Rattle.std.proofs.lemmas.List.Sorted.{All-permutation, length_permutation}
+use Rattle.std.proofs.lemmas.Map.Views.{All-map-IsPermutation}
+use denote.Ref.{Bor}
+use Rattle.og_ops.proofs.MetLemmas.{lent_found-IsPermutation}
 use Rattle.og_base.specs.Calendar.{IsRefDay}
 use Rattle.og_base.specs.Ranges.{Range, holds_day}
 use Rattle.og_base.specs.Set.{IsExactOrder, set_of}
 use Rattle.og_base.specs.declared.range.FixedPeriod.{FixedPeriod}
 use Rattle.og_par.specs.Phase.{MadeOfEach}
-use Rattle.og_par.proofs.PhaseLemmas.{MadeOfEach-shown}
 use Rattle.og_rel.specs.Relations.{present, relation_at}
 use Rattle.og_rel.proofs.AlgebraLemmas.{length-filter_le}
-use Rattle.og_rel.proofs.PresentLemmas.{at_place, present-append, present-more}
+use Rattle.og_rel.proofs.PresentLemmas.{present-append}
 use Rattle.og_ops.specs.Days.{is_hit, OnNoDay}
 use Rattle.og_ops.specs.Lending.{lent}
 use Rattle.og_rel.specs.declared.pair.Pair.{Pair}
 use Rattle.og_ops.specs.declared.semijoins.KeyedRow.{KeyedRow}
 use Rattle.og_join.specs.Hits.{stored_hits}
 use Rattle.og_join.specs.Joined.{joined, AreTold, DoOverlap}
-use Rattle.og_join.specs.SameKey.{AreHits, AreNear, HaveDayKeys, HaveSpans, IsNear, joined_same_key}
-use Rattle.og_join.specs.declared.same_key.SameKey.{SameKey}
+use Rattle.og_join.specs.SameKey.{AreHits, AreHitsOf, AreLent, HaveDayKeys, HaveSpans, IsNear}
 use Rattle.og_join.specs.declared.span_key.SpanKey.{SpanKey}
 use Rattle.og_join.proofs.HitLemmas.{length-stored_hits, present-hits, present-hit}
 use Rattle.og_join.proofs.JoinedLemmas.{ties_turned, joined-append, one_joined-append, one_joined-nil, joined-one, set_of-joined, set_of-images}
@@ -109,7 +113,7 @@ module _ {R F : Type 0} (at : R → ℤ → F) (d : ℤ) where
       first false e rest = fails (holds_day s.days.now d) e rest
 
   -- at most one row joined to those of the others that have its key, is joined to all of them by keys that are equal
-  joined-keyed : {K : Type 0} {cmp : K → K → Ordering} → IsTotalOrder cmp → (glued : F → F → F) (meets : F → F → Bool) (left_of right_of : F → K) (key : K) (x : F) (h : Bool) (rows : List (KeyedRow R (SpanKey K)))
+  pub joined-keyed : {K : Type 0} {cmp : K → K → Ordering} → IsTotalOrder cmp → (glued : F → F → F) (meets : F → F → Bool) (left_of right_of : F → K) (key : K) (x : F) (h : Bool) (rows : List (KeyedRow R (SpanKey K)))
       → IsRefDay d → left_of x ≡ key → HaveDayKeys at right_of rows
       → joined glued meets (if h then x ∷ [] else []) (present at (lent (filter (λ s. eq_by_cmp cmp s.key.key key) rows)) d)
       ≡ joined glued (λ y z. eq_by_cmp cmp (left_of y) (right_of z) && meets y z) (if h then x ∷ [] else []) (present at (lent rows) d)
@@ -118,27 +122,6 @@ module _ {R F : Type 0} (at : R → ℤ → F) (d : ℤ) where
       (filter-lent (λ s. eq_by_cmp cmp s.key.key key) (meets x) (λ z. eq_by_cmp cmp (left_of x) (right_of z) && meets x z) rows
       (λ i e l. ap (λ b. b && meets x (at (get_or rows i e).row.now d)) (ap₂ (eq_by_cmp cmp) is (keys i e l d r) ∙ ties_turned total key (get_or rows i e).key.key)))
   joined-keyed total glued meets left_of right_of key x false rows r is keys = refl
-
-  -- one more left row with those of the others that have its key
-  pub joined_same_key-more : {K : Type 0} {cmp : K → K → Ordering} → IsTotalOrder cmp → (glued : F → F → F) (meets : F → F → Bool) (left_of right_of : F → K) (left : List (R × List Range)) (rows : List (KeyedRow R (SpanKey K)))
-      (old new : List (SameKey R (SpanKey K))) (i : ℕ) (s : SameKey R (SpanKey K)) (key : K) → i < length left → new ≡ old ++ s ∷ []
-      → ((p : R × List Range) → s.row.now ≡ (get_or left i p).0) → ((p : R × List Range) → s.days.now ≡ (get_or left i p).1)
-      → s.others.now ≡ filter (λ o. eq_by_cmp cmp o.key.key key) rows → IsRefDay d → left_of (at s.row.now d) ≡ key → HaveDayKeys at right_of rows
-      → joined_same_key at glued meets old d ≡ joined glued (λ y z. eq_by_cmp cmp (left_of y) (right_of z) && meets y z) (present at (take i left) d) (present at (lent rows) d)
-      → joined_same_key at glued meets new d ≡ joined glued (λ y z. eq_by_cmp cmp (left_of y) (right_of z) && meets y z) (present at (take (i + 1) left) d) (present at (lent rows) d)
-  joined_same_key-more {K} {cmp} total glued meets left_of right_of left rows old new i s key l e row_is days_is others_are r is keys before =
-      let both : F → F → Bool = λ y z. eq_by_cmp cmp (left_of y) (right_of z) && meets y z in
-      let here : List F = present at ((s.row.now, s.days.now) ∷ []) d in
-      let right : List F = present at (lent rows) d in
-      let of_one : SameKey R (SpanKey K) → List F = λ t. joined glued meets (present at ((t.row.now, t.days.now) ∷ []) d) (present at (lent t.others.now) d) in
-      ap (λ lefts. joined_same_key at glued meets lefts d) e
-      ∙ flat_map-append of_one old (s ∷ [])
-      ∙ ap₂ (λ us vs. us ++ vs) before
-      (append-nil (of_one s)
-      ∙ ap (λ others. joined glued meets here (present at (lent others) d)) others_are
-      ∙ joined-keyed total glued meets left_of right_of key (at s.row.now d) (holds_day s.days.now d) rows r is keys)
-      ∙ sym (joined-append glued both (present at (take i left) d) here right)
-      ∙ ap (λ xs. joined glued both xs right) (sym (present-more at left i (s.row.now, s.days.now) d l (at_place left i s.row.now s.days.now row_is days_is)))
 
 module _ {R F K : Type 0} (glued : F → F → F) (at : R → ℤ → F) (holds : ℤ → F → Bool) where
   -- no hit of two rows whose spans do not overlap, where the spans tell which can meet
@@ -152,29 +135,24 @@ module _ {R F K : Type 0} (glued : F → F → F) (at : R → ℤ → F) (holds 
       never both true no_day = absurd (no_day refl)
       never both false no_day = and-false both
 
-  -- one more left row whose others are some of the rows of the right, where spans tell which rows can meet
-  pub AreNear-more : (left_span right_span : R → FixedPeriod) (left : List (R × List Range)) (rows : List (KeyedRow R (SpanKey K))) (old new : List (SameKey R (SpanKey K))) (i : ℕ) (s : SameKey R (SpanKey K))
-      (pass : KeyedRow R (SpanKey K) → Bool) → i < length left → new ≡ old ++ s ∷ [] → ((p : R × List Range) → s.row.now ≡ (get_or left i p).0)
-      → s.others.now ≡ filter pass rows → HaveSpans right_span rows → AreTold glued at holds left_span right_span left (lent rows) → All (AreNear glued at holds left_span) old → All (AreNear glued at holds left_span) new
-  AreNear-more left_span right_span left rows old new i s pass l e row_is others_are spans told before =
-      let is_near : KeyedRow R (SpanKey K) → Type 0 = IsNear glued at holds (left_span s.row.now) s.row.now in
-      All-same (AreNear glued at holds left_span) new (old ++ s ∷ []) e
-      (All-push (AreNear glued at holds left_span) old s before (subst (All is_near) (sym others_are) (All-filter pass is_near rows near)))
-    where
-      lend : KeyedRow R (SpanKey K) → R × List Range
-      lend o = (o.row.now, o.days.now)
+  -- each of the right rows is near to a left row
+  pub near_of : (left_span right_span : R → FixedPeriod) (p : R × List Range) (rows : List (KeyedRow R (SpanKey K))) → HaveSpans right_span rows → AreTold glued at holds left_span right_span (p ∷ []) (lent rows)
+      → All (IsNear glued at holds (left_span p.0) p.0) rows
+  near_of left_span right_span p rows spans told k o within d r h =
+      let lend : KeyedRow R (SpanKey K) → R × List Range = λ s. (s.row.now, s.days.now) in
+      let other : KeyedRow R (SpanKey K) = get_or rows k o in
+      let tells : R × List Range → Type 0 = λ q. (d : ℤ) → IsRefDay d → holds d (glued (at p.0 d) (at q.0 d)) ≡ true → DoOverlap (left_span p.0) (right_span q.0) in
+      let here : tells (lend other) = subst tells (get_or-map lend rows k o (lend o) within) (told 0 p (omega arith) k (lend o) (subst (λ n. k < n) (sym (length-map rows lend)) within)) in
+      subst (λ span. DoOverlap (left_span p.0) span) (spans k o within) (here d r h)
 
-      tells : R → R × List Range → Type 0
-      tells x q = (d : ℤ) → IsRefDay d → holds d (glued (at x d) (at q.0 d)) ≡ true → DoOverlap (left_span x) (right_span q.0)
+module _ {R F : Type 0} (glued : F → F → F) (at : R → ℤ → F) (holds : ℤ → F → Bool) where
+  -- of spans that tell which rows can meet, what they tell of a left row
+  abbrev pub Tells : (R → FixedPeriod) → (R → FixedPeriod) → List (R × List Range) → R × List Range → Type 0
+  Tells left_span right_span right p = All (λ q. (d : ℤ) → IsRefDay d → holds d (glued (at p.0 d) (at q.0 d)) ≡ true → DoOverlap (left_span p.0) (right_span q.0)) right
 
-      here : All (tells s.row.now) (lent rows)
-      here = subst (λ x. All (tells x) (lent rows)) (sym (row_is (s.row.now, s.days.now))) (told i (s.row.now, s.days.now) l)
-
-      near : All (IsNear glued at holds (left_span s.row.now) s.row.now) rows
-      near k o within d r h =
-          let other : KeyedRow R (SpanKey K) = get_or rows k o in
-          let at_place : tells s.row.now (lend other) = subst (tells s.row.now) (get_or-map lend rows k o (lend o) within) (here k (lend o) (subst (λ n. k < n) (sym (length-map rows lend)) within)) in
-          subst (λ span. DoOverlap (left_span s.row.now) span) (spans k o within) (at_place d r h)
+  -- they tell it of a left row alone
+  pub AreTold-one : (left_span right_span : R → FixedPeriod) (right : List (R × List Range)) (p : R × List Range) → Tells left_span right_span right p → AreTold glued at holds left_span right_span (p ∷ []) right
+  AreTold-one left_span right_span right p tells = All-push (Tells left_span right_span right) [] p (All-nil (Tells left_span right_span right)) tells
 
 -- spans that tell which rows can meet of a relation tell it of rows that stand in it
 pub AreTold-among : {R F : Type 0} (glued : F → F → F) (at : R → ℤ → F) (holds : ℤ → F → Bool) (left_span right_span : R → FixedPeriod) (left right others : List (R × List Range))
@@ -183,59 +161,115 @@ AreTold-among {R} glued at holds left_span right_span left right others among to
     λ k q within. All-contains (λ o. (d : ℤ) → IsRefDay d → holds d (glued (at (get_or left i p).0 d) (at o.0 d)) ≡ true → DoOverlap (left_span (get_or left i p).0) (right_span o.0))
     right (get_or others k q) (told i p l) (among k q within)
 
--- what is made of items, where each keeps a premise
-pub MadeOfEach-kept : {T X : Type 0} (premise : T → Type 0) (gives : T → List X → Type 0) (ts : List T) (made : List X) → All premise ts → MadeOfEach (λ t h. premise t → gives t h) ts made → MadeOfEach gives ts made
-MadeOfEach-kept premise gives [] made kept h = h
-MadeOfEach-kept premise gives (t ∷ ts) made kept h =
-    (h.0, h.1, h.2 (All-head premise t ts kept), MadeOfEach-kept premise gives ts h.1 (All-tail premise t ts kept) h.3, h.4)
+module _ {R F : Type 0} (at : R → ℤ → F) (glued : F → F → F) (image : ℤ → F → F) (same_key : F → F → Bool) (holds : ℤ → F → Bool) (right : List (R × List Range)) where
+  -- of no left rows
+  AreHitsOf-nil : AreHitsOf glued image same_key holds at [] right []
+  AreHitsOf-nil = record { law = λ d r. refl; size = omega arith }
 
--- one more left row
-pub size_more : {X : Type 0} (old new : List X) (x : X) (i : ℕ) → new ≡ old ++ x ∷ [] → length old ≡ i → length new ≡ i + 1
-size_more old new x i e h = ap length e ∙ length-append old (x ∷ []) ∙ ap (λ n. n + 1) h
+  -- of left rows, and more left rows
+  AreHitsOf-append : (xs ys : List (R × List Range)) (a b : List (Pair R)) → AreHitsOf glued image same_key holds at xs right a → AreHitsOf glued image same_key holds at ys right b → AreHitsOf glued image same_key holds at (xs ++ ys) right (a ++ b)
+  AreHitsOf-append xs ys a b h k = record {
+    law = λ d r.
+        present-hits at d a b ∙ ap₂ (λ us vs. us ++ vs) (h.law d r) (k.law d r)
+        ∙ sym (joined-append (λ x y. image d (glued x y)) (λ x y. same_key x y && holds d (glued x y)) (present at xs d) (present at ys d) (present at right d))
+        ∙ ap (λ lefts. joined (λ x y. image d (glued x y)) (λ x y. same_key x y && holds d (glued x y)) lefts (present at right d)) (sym (present-append at xs ys d));
+    size = both_size (length (a ++ b)) (length a) (length b) (length (xs ++ ys)) (length xs) (length ys) (length right) (length-append a b) (length-append xs ys) h.size k.size;
+  }
+    where
+      both_size : (whole a b lefts xs ys n : ℕ) → whole ≡ a + b → lefts ≡ xs + ys → a ≤ xs * n → b ≤ ys * n → whole ≤ lefts * n
+      both_size whole a b lefts xs ys n e f h k = grind (arith, e, f, h, k)
 
--- those that have a key are at most all
-pub most_of_key : {X : Type 0} (pass : X → Bool) (some all : List X) → some ≡ filter pass all → length some ≤ length all
-most_of_key pass some all e = subst (λ xs. length xs ≤ length all) (sym e) (length-filter_le pass all)
+  -- of all left rows, where what is told of all gives what is made of each
+  pub AreHitsOf-all : (told : R × List Range → Type 0) (gives : Pair R → List (Pair R) → Type 0) → ((p : Pair R) (made : List (Pair R)) → told (p.row, p.days) → gives p made → AreHitsOf glued image same_key holds at ((p.row, p.days) ∷ []) right made)
+      → (pairs : List (Pair R)) (made : List (Pair R)) → All told (map (λ p. (p.row, p.days)) pairs) → MadeOfEach gives pairs made → AreHitsOf glued image same_key holds at (map (λ p. (p.row, p.days)) pairs) right made
+  AreHitsOf-all told gives each [] made all m = subst (AreHitsOf glued image same_key holds at [] right) (sym m) AreHitsOf-nil
+  AreHitsOf-all told gives each (p ∷ pairs) made all m =
+      let lefts = map (λ q. (q.row, q.days)) pairs in
+      subst (AreHitsOf glued image same_key holds at ((p.row, p.days) ∷ lefts) right) (sym m.4)
+      (AreHitsOf-append ((p.row, p.days) ∷ []) lefts m.0 m.1 (each p m.0 (All-head told (p.row, p.days) lefts all) m.2)
+      (AreHitsOf-all told gives each pairs m.1 (All-tail told (p.row, p.days) lefts all) m.3))
 
--- of lefts each of which makes at most so many hits, there are at most the product
-pub length-made : {T X : Type 0} (gives : T → List X → Type 0) (most : T → ℕ) (n : ℕ) → ((t : T) (made : List X) → gives t made → length made ≤ most t)
-    → (ts : List T) (made : List X) → All (λ t. most t ≤ n) ts → MadeOfEach gives ts made → length made ≤ length ts * n
-length-made gives most n each [] made all h = subst (λ xs. length xs ≤ 0 * n) (sym h) (grind arith)
-length-made gives most n each (t ∷ ts) made all h =
-    let first = each t h.0 h.2 in
-    let here = All-head (λ u. most u ≤ n) t ts all in
-    let rest = length-made gives most n each ts h.1 (All-tail (λ u. most u ≤ n) t ts all) h.3 in
-    product_more (length made) (length h.0) (length h.1) (most t) (length ts) n (ap length h.4 ∙ length-append h.0 h.1) first here rest
-  where
-    product_more : (whole first rest bound count n : ℕ) → whole ≡ first + rest → first ≤ bound → bound ≤ n → rest ≤ count * n → whole ≤ suc count * n
-    product_more whole first rest bound count n e f b r = grind (arith, e, f, b, r)
-
-module _ {R F K : Type 0} (at : R → ℤ → F) (glued : F → F → F) (image : ℤ → F → F) (holds : ℤ → F → Bool) (lefts : List (SameKey R (SpanKey K))) (hits : List (Pair R))
-    (made : MadeOfEach (λ s h. AreHits glued image holds at s.row.now s.days.now (lent s.others.now) h) lefts hits) where
-  -- the rows of a day of all hits that are made
-  present-made : (d : ℤ) → IsRefDay d → present at (stored_hits hits) d ≡ joined_same_key at (λ x y. image d (glued x y)) (λ x y. holds d (glued x y)) lefts d
-  present-made d r =
-      MadeOfEach-shown (λ s h. AreHits glued image holds at s.row.now s.days.now (lent s.others.now) h) (λ h. present at (stored_hits h) d)
-      (λ s. joined (λ x y. image d (glued x y)) (λ x y. holds d (glued x y)) (present at ((s.row.now, s.days.now) ∷ []) d) (present at (lent s.others.now) d))
-      refl (present-hits at d) (λ s h k. k.law d r) lefts hits made
-
-  -- they are the images of what is joined of the relations by keys that are equal, where the others are the rows of the right in some order
-  pub made_law : {cmp : F → F → Ordering} → IsExactOrder cmp → (same_keys : F → F → Bool) (left right rel : List (R × List Range)) (others : List F) (d : ℤ) → IsRefDay d → rel ≡ stored_hits hits
-      → All (λ x. (t : F → Bool) → list_any (λ y. (same_keys x y && holds d (glued x y)) && t y) others ≡ list_any (λ y. (same_keys x y && holds d (glued x y)) && t y) (present at right d)) (present at left d)
-      → joined_same_key at (λ x y. image d (glued x y)) (λ x y. holds d (glued x y)) lefts d ≡ joined (λ x y. image d (glued x y)) (λ x y. same_keys x y && holds d (glued x y)) (present at left d) others
-      → relation_at cmp at rel d ≡ set_of cmp (map (image d) (joined glued (λ x y. same_keys x y && holds d (glued x y)) (relation_at cmp at left d) (relation_at cmp at right d)))
-  made_law {cmp} o same_keys left right rel others d r is same tried =
+  -- they are the images of what is joined of the relations, where these right rows are found as all are
+  pub hits_law : {cmp : F → F → Ordering} → IsExactOrder cmp → (left whole rel : List (R × List Range)) (hits : List (Pair R)) (d : ℤ) → IsRefDay d → rel ≡ stored_hits hits
+      → All (λ x. (t : F → Bool) → list_any (λ y. (same_key x y && holds d (glued x y)) && t y) (present at right d) ≡ list_any (λ y. (same_key x y && holds d (glued x y)) && t y) (present at whole d)) (present at left d)
+      → AreHitsOf glued image same_key holds at left right hits
+      → relation_at cmp at rel d ≡ set_of cmp (map (image d) (joined glued (λ x y. same_key x y && holds d (glued x y)) (relation_at cmp at left d) (relation_at cmp at whole d)))
+  hits_law {cmp} o left whole rel hits d r is same h =
       ap (λ rows. relation_at cmp at rows d) is
-      ∙ ap (set_of cmp) (present-made d r ∙ tried)
-      ∙ set_of-joined (λ x y. image d (glued x y)) (λ x y. same_keys x y && holds d (glued x y)) o (present at left d) others (present at right d) same
-      ∙ set_of-images o glued (λ x y. same_keys x y && holds d (glued x y)) (image d) (relation_at cmp at left d) (relation_at cmp at right d)
+      ∙ ap (set_of cmp) (h.law d r)
+      ∙ set_of-joined (λ x y. image d (glued x y)) (λ x y. same_key x y && holds d (glued x y)) o (present at left d) (present at right d) (present at whole d) same
+      ∙ set_of-images o glued (λ x y. same_key x y && holds d (glued x y)) (image d) (relation_at cmp at left d) (relation_at cmp at whole d)
 
   -- there are at most as many as pairs of rows
-  pub made_size : (rel : List (R × List Range)) (n m : ℕ) → rel ≡ stored_hits hits → length lefts ≡ n → All (λ s. length s.others.now ≤ m) lefts → length rel ≤ n * m
-  made_size rel n m is count most =
-      let rows = length-stored_hits hits in
-      let whole = length-made (λ s h. AreHits glued image holds at s.row.now s.days.now (lent s.others.now) h) (λ s. length s.others.now) m (λ s h k. lent_size s h k.size) lefts hits most made in
-      subst (λ k. length rel ≤ k * m) count (subst (λ xs. length xs ≤ length lefts * m) (sym is) (omega (arith, rows, whole)))
+  pub hits_size : (left rel : List (R × List Range)) (hits : List (Pair R)) (m : ℕ) → rel ≡ stored_hits hits → length right ≤ m → AreHitsOf glued image same_key holds at left right hits → length rel ≤ length left * m
+  hits_size left rel hits m is most h = most_of (length rel) (length hits) (length left) (length right) m (subst (λ xs. length xs ≤ length hits) (sym is) (length-stored_hits hits)) h.size most
     where
-      lent_size : (s : SameKey R (SpanKey K)) (h : List (Pair R)) → length h ≤ length (lent s.others.now) → length h ≤ length s.others.now
-      lent_size s h l = subst (λ k. length h ≤ k) (length-map s.others.now (λ q. (q.row.now, q.days.now))) l
+      most_of : (rel hits n right m : ℕ) → rel ≤ hits → hits ≤ n * right → right ≤ m → rel ≤ n * m
+      most_of rel hits n right m h k l = grind (arith, h, k, l)
+
+module _ {R F K : Type 0} (at : R → ℤ → F) (glued : F → F → F) (image : ℤ → F → F) (holds : ℤ → F → Bool) {cmp : K → K → Ordering} (total : IsTotalOrder cmp) (left_of right_of : F → K) where
+  -- the hits of a left row and the right rows that have its key are those of it and all right rows, by keys that are equal
+  pub AreHitsOf-row : (row : R) (days : List Range) (rows others : List (KeyedRow R (SpanKey K))) (key : K) (made : List (Pair R)) → others ≡ filter (λ o. eq_by_cmp cmp o.key.key key) rows
+      → ((d : ℤ) → IsRefDay d → left_of (at row d) ≡ key) → HaveDayKeys at right_of rows → AreHits glued image holds at row days (lent others) made
+      → AreHitsOf glued image (λ x y. eq_by_cmp cmp (left_of x) (right_of y)) holds at ((row, days) ∷ []) (lent rows) made
+  AreHitsOf-row row days rows others key made are key_is keys h = record {
+    law = λ d r.
+        h.law d r ∙ ap (λ os. joined (λ x y. image d (glued x y)) (λ x y. holds d (glued x y)) (present at ((row, days) ∷ []) d) (present at (lent os) d)) are
+        ∙ joined-keyed at d total (λ x y. image d (glued x y)) (λ x y. holds d (glued x y)) left_of right_of key (at row d) (holds_day days d) rows r (key_is d r) keys;
+    size =
+        let lend : KeyedRow R (SpanKey K) → R × List Range = λ s. (s.row.now, s.days.now) in
+        let some = filter (λ o. eq_by_cmp cmp o.key.key key) rows in
+        omega (arith, h.size, ap (λ os. length (lent os)) are, length-map some lend, length-map rows lend, length-filter_le (λ o. eq_by_cmp cmp o.key.key key) rows);
+  }
+
+module _ {R F K : Type 0} (at : R → ℤ → F) (cmp : K → K → Ordering) (key_of : F → K) (span_of : R → FixedPeriod) (sought : Bool × List K) where
+  -- rows that are lent, in another order
+  pub AreLent-permutation : (right : List (R × List Range)) (rows new : List (KeyedRow R (SpanKey K))) → IsPermutation rows new → AreLent at cmp key_of span_of sought right rows → AreLent at cmp key_of span_of sought right new
+  AreLent-permutation right rows new moved h = record {
+    keys = All-permutation (λ s. (d : ℤ) → IsRefDay d → key_of (at s.row.now d) ≡ s.key.key) rows new moved h.keys;
+    spans = All-permutation (λ s. span_of s.row.now ≡ s.key.span) rows new moved h.spans;
+    found = λ t d r of_sought. lent_found-IsPermutation at t d rows new moved ∙ h.found t d r of_sought;
+    among = All-map-IsPermutation (λ s. (s.row.now, s.days.now)) (Contains right) rows new moved h.among;
+    size = omega (arith, length_permutation rows new moved, h.size);
+  }
+
+  -- of no right rows
+  AreLent-nil : AreLent at cmp key_of span_of sought [] []
+  AreLent-nil = record {
+    keys = All-nil (λ s. (d : ℤ) → IsRefDay d → key_of (at s.row.now d) ≡ s.key.key);
+    spans = All-nil (λ s. span_of s.row.now ≡ s.key.span);
+    found = λ t d r of_sought. refl;
+    among = All-nil (Contains []);
+    size = omega arith;
+  }
+
+  -- of right rows, and more right rows
+  AreLent-append : (xs ys : List (R × List Range)) (a b : List (KeyedRow R (SpanKey K))) → AreLent at cmp key_of span_of sought xs a → AreLent at cmp key_of span_of sought ys b → AreLent at cmp key_of span_of sought (xs ++ ys) (a ++ b)
+  AreLent-append xs ys a b h k =
+      let lend : KeyedRow R (SpanKey K) → R × List Range = λ s. (s.row.now, s.days.now) in
+      let both : lent (a ++ b) ≡ lent a ++ lent b = map-append lend a b in
+      record {
+        keys = All-append (λ s. (d : ℤ) → IsRefDay d → key_of (at s.row.now d) ≡ s.key.key) a b h.keys k.keys;
+        spans = All-append (λ s. span_of s.row.now ≡ s.key.span) a b h.spans k.spans;
+        found = λ t d r of_sought.
+            ap (λ rel. list_any t (present at rel d)) both
+            ∙ ap (list_any t) (present-append at (lent a) (lent b) d) ∙ list_any-append t (present at (lent a) d) (present at (lent b) d)
+            ∙ ap₂ (λ u v. u || v) (h.found t d r of_sought) (k.found t d r of_sought)
+            ∙ sym (list_any-append t (present at xs d) (present at ys d)) ∙ ap (list_any t) (sym (present-append at xs ys d));
+        among = All-same (Contains (xs ++ ys)) (lent (a ++ b)) (lent a ++ lent b) both
+            (All-append (Contains (xs ++ ys)) (lent a) (lent b)
+            (All-weaker (Contains xs) (Contains (xs ++ ys)) (λ p i. Contains-append_left xs ys p i) (lent a) h.among)
+            (All-weaker (Contains ys) (Contains (xs ++ ys)) (λ p i. Contains-append_right xs ys p i) (lent b) k.among));
+        size = omega (arith, length-append a b, length-append xs ys, h.size, k.size);
+      }
+
+  -- of blocks of right rows
+  pub AreLent-blocks : (blocks : List (Bor (List (Pair R)))) (rows : List (KeyedRow R (SpanKey K))) → MadeOfEach (λ block made. AreLent at cmp key_of span_of sought (map (λ p. (p.row, p.days)) block.now) made) blocks rows
+      → AreLent at cmp key_of span_of sought (map (λ p. (p.row, p.days)) (flat_map (λ b. b.now) blocks)) rows
+  AreLent-blocks [] rows m = subst (AreLent at cmp key_of span_of sought []) (sym m) AreLent-nil
+  AreLent-blocks (b ∷ blocks) rows m =
+      let pair_of : Pair R → R × List Range = λ p. (p.row, p.days) in
+      subst (λ right. AreLent at cmp key_of span_of sought right rows)
+      (sym (ap (map pair_of) (flat_map-cons (λ c. c.now) b blocks) ∙ map-append pair_of b.now (flat_map (λ c. c.now) blocks)))
+      (subst (AreLent at cmp key_of span_of sought (map pair_of b.now ++ map pair_of (flat_map (λ c. c.now) blocks))) (sym m.4)
+      (AreLent-append (map pair_of b.now) (map pair_of (flat_map (λ c. c.now) blocks)) m.0 m.1 m.2 (AreLent-blocks blocks m.1 m.3)))

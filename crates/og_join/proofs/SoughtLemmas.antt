@@ -16,7 +16,6 @@ use Rattle.og_rel.proofs.PresentLemmas.{present-append, present-more}
 use Rattle.og_ops.specs.Lending.{lent}
 use Rattle.og_ops.specs.declared.semijoins.KeyedRow.{KeyedRow}
 use Rattle.og_join.specs.Sought.{IsSought}
-use Rattle.og_join.specs.declared.sought.Sought.{Sought}
 
 -- a list with one more member is one longer
 pub length-pushed : {X : Type 0} (old new : List X) (x : X) → new ≡ old ++ x ∷ [] → length new ≡ length old + 1
@@ -43,8 +42,8 @@ module _ {K : Type 0} {cmp : K → K → Ordering} (total : IsTotalOrder cmp) wh
   ties_alike j k l e = ap is_eq (total.antisymm j k ∙ ap ordering_reverse (total.congr k l j (tied (cmp k l) e)) ∙ sym (total.antisymm j l))
 
   -- of two keys that tie both are sought, or none
-  pub sought_alike : (sought : Sought K) (k l : K) → eq_by_cmp cmp k l ≡ true → IsSought cmp sought k → IsSought cmp sought l
-  sought_alike sought k l e is few = sym (alike sought.keys.items) ∙ is few
+  pub sought_alike : (sought : Bool × List K) (k l : K) → eq_by_cmp cmp k l ≡ true → IsSought cmp sought k → IsSought cmp sought l
+  sought_alike sought k l e is few = sym (alike sought.1) ∙ is few
     where
       alike : (js : List K) → list_any (λ j. eq_by_cmp cmp j k) js ≡ list_any (λ j. eq_by_cmp cmp j l) js
       alike [] = refl
@@ -93,20 +92,20 @@ module _ {R F : Type 0} (at : R → ℤ → F) (t : F → Bool) (d : ℤ) (right
       ∙ sym (list_any-append t (present at (take i right) d) (present at (p ∷ []) d))
       ∙ ap (list_any t) (sym (present-more at right i p d l is))
 
-module _ {K : Type 0} {cmp : K → K → Ordering} (total : IsTotalOrder cmp) (sought : Sought K) (key : K) (up : IsSortedBy (λ a b. is_lt (cmp a b)) sought.keys.items) where
+module _ {K : Type 0} {cmp : K → K → Ordering} (total : IsTotalOrder cmp) (sought : Bool × List K) (key : K) (up : IsSortedBy (λ a b. is_lt (cmp a b)) sought.1) where
   -- a key that a binary search does not find ties with none
-  pub not_found : (r : Result ℕ ℕ) → IsBinarySearchResult (λ k. cmp k key) sought.keys.items r → is_ok r ≡ false → list_any (λ k. eq_by_cmp cmp k key) sought.keys.items ≡ false
+  pub not_found : (r : Result ℕ ℕ) → IsBinarySearchResult (λ k. cmp k key) sought.1 r → is_ok r ≡ false → list_any (λ k. eq_by_cmp cmp k key) sought.1 ≡ false
   not_found (Ok i) found e = cc
   not_found (Err i) gap e =
-      list_any_none (λ k. eq_by_cmp cmp k key) sought.keys.items
-      (λ n k within. apart n k within (gap (searchable_from_sorted total (λ a. a) sought.keys.items key up)))
+      list_any_none (λ k. eq_by_cmp cmp k key) sought.1
+      (λ n k within. apart n k within (gap (searchable_from_sorted total (λ a. a) sought.1 key up)))
     where
-      apart : (n : ℕ) (k : K) → n < length sought.keys.items → IsPartitionPoint (λ y. cmp y key ≡ Less) (λ y. cmp y key ≡ Greater) sought.keys.items i → eq_by_cmp cmp (get_or sought.keys.items n k) key ≡ false
+      apart : (n : ℕ) (k : K) → n < length sought.1 → IsPartitionPoint (λ y. cmp y key ≡ Less) (λ y. cmp y key ≡ Greater) sought.1 i → eq_by_cmp cmp (get_or sought.1 n k) key ≡ false
       apart n k within gap = at (nat_lt n i) refl
         where
           unlike : (o other : Ordering) → o ≡ other → is_eq other ≡ false → is_eq o ≡ false
           unlike o other e f = ap is_eq e ∙ f
 
-          at : (b : Bool) → nat_lt n i ≡ b → eq_by_cmp cmp (get_or sought.keys.items n k) key ≡ false
+          at : (b : Bool) → nat_lt n i ≡ b → eq_by_cmp cmp (get_or sought.1 n k) key ≡ false
           at true e = unlike _ Less (gap.0 n k (omega arith) (grind (arith, e))) refl
           at false e = unlike _ Greater (gap.1 n k (grind (arith, e)) within) refl

@@ -1,44 +1,64 @@
-//! A block of left spans, joined with all right spans.
-ghost use Rattle.std.specs.Prelude.{◌≤◌, ◌*◌, IfOk, length};
+//! Blocks of left spans, each joined with all right spans.
+ghost use Rattle.std.specs.Prelude.{◌≡◌, ◌≤◌, IfOk};
+ghost use Rattle.std.specs.List.{flat_map};
 ghost use Rattle.og_par.specs.Limits.{max_workers};
-ghost use Rattle.og_join.specs.Overlaps.{Rises};
-ghost use Rattle.og_join.specs.Tried.{AreJoined};
 
+use crate::outers::RisingSpans;
 use crate::row_pairs::row_pairs;
-use crate::tries::TryPair;
+use crate::tries::{Sides, try_pairs};
 use og_base::{DayCond, Glue, NoMemory, Outer};
-use og_ops::PairMap;
-use og_par::{Gate, par_rows};
-use og_rel::Rel;
+use og_ops::{Hit, PairMap};
+use og_par::Piece;
 use std::alloc::Global;
-use std::thread::Threads;
 
-// What the map makes of the rows of each pair of spans that overlap, where the condition holds of them
-// on some day, in the order of the left rows. The pairs are shared out among the workers and tried.
-pub(crate) fn join_block<
-    H: Threads + Sync,
-    R: Glue + Drop + Sync + Send,
-    C: DayCond<R> + Sync,
-    M: PairMap<R> + Sync,
-    G: Gate + Sync,
->(
-    rt: &H,
+// How many left spans a block has at most: so many pairs of places as they make stand in memory at once.
+const BLOCK: usize = 16_384;
+
+// The spans cut into blocks of about one size, as many for each worker.
+pub(crate) fn blocks_of<'a>(
     alloc: Global,
     workers: usize,
-    left_spans: &[Outer],
-    right_spans: &[Outer],
-    pair: &TryPair<'_, R, C, M>,
-    gate: &G,
-) -> Result<Rel<R>, NoMemory>
-where
-    R::Fixed: Send,
+    spans: &'a [Outer],
+) -> Result<Vec<&'a [Outer]>, NoMemory>
     requires least { 1 ≤ workers }
     requires most { workers ≤ max_workers }
-    requires right_rises { Rises (λ o. o.lo) right_spans.now }
-    ensures rows { IfOk result (AreJoined R.glued (M.image pair.now.pair_map.now) R.meaning (C.holds pair.now.cond.now) pair.now.left.now pair.now.right.now right_spans.now left_spans.now) }
-    ensures size { IfOk result (λ r. length r ≤ length left_spans.now * length right_spans.now) }
+    ensures { IfOk result (λ v. flat_map (λ b. b.now) v.items ≡ spans.now) }
 {
-    let pairs = row_pairs(alloc, left_spans, right_spans)?;
-    let hits = par_rows(rt, alloc, workers, pairs.as_slice(), pair, gate)?;
-    Ok(Rel::of(hits))
+    let rounds = spans.len().div_ceil(workers * BLOCK);
+    let count = workers.saturating_mul(rounds).max(1);
+    let size = spans.len().div_ceil(count).max(1);
+    // Room for all at once: `collect` asks for less where that is refused, and does not tell.
+    let mut blocks = Vec::with_capacity(alloc, spans.len().div_ceil(size))?;
+    blocks.extend(spans.chunks(size))?;
+    Ok(blocks)
+}
+
+// Makes of a block of left spans what is made of the rows of each pair of spans that overlap, in the order of the
+// left rows.
+#[derive(Drop)]
+pub(crate) struct JoinBlock<'s, 'a, R, C, M> {
+    pub(crate) right_spans: &'s RisingSpans,
+    pub(crate) sides: &'s Sides<'a, R, C, M>,
+}
+
+impl<'b, 's, 'a, R: Glue + Drop, C: DayCond<R>, M: PairMap<R>> Piece<&'b [Outer]>
+    for JoinBlock<'s, 'a, R, C, M> {
+    ghost use Rattle.std.specs.Prelude.{◌≤◌, ◌*◌, length};
+    ghost use Rattle.og_join.specs.Hits.{stored_hits};
+    ghost use Rattle.og_join.specs.Tried.{AreJoined};
+
+    type Out = Hit<R>;
+
+    ghost gives = { λ piece block made. AreJoined R.glued (M.image piece.sides.now.pair_map.now) R.meaning (C.holds piece.sides.now.cond.now) piece.sides.now.left.now piece.sides.now.right.now piece.right_spans.now block.now (stored_hits made)
+        × (length made ≤ length block.now * length piece.right_spans.now) };
+
+    fn make(
+        &self,
+        alloc: Global,
+        item: &&'b [Outer],
+        out: &mut Vec<Hit<R>>,
+    ) -> Result<(), NoMemory> {
+        let pairs = row_pairs(alloc, *item, self.right_spans)?;
+        try_pairs(alloc, self.sides, pairs.as_slice(), out)
+    }
 }

@@ -7,7 +7,8 @@ ghost use Rattle.og_par.specs.Limits.{max_workers};
 ghost use Rattle.og_rel.specs.Relations.{relation_at};
 ghost use Rattle.og_join.specs.Joined.{joined, AreTold};
 
-use crate::same_key::{TryRow, left_with_others, right_by_key};
+use crate::groups::GroupedRows;
+use crate::same_key::{TryLeft, right_by_key};
 use crate::sought::keys_sought;
 use crate::spans::{AllDays, Spans};
 use og_base::{DayCond, Glue, Instant, NoMemory};
@@ -45,7 +46,7 @@ pub trait Keys<R: Instant> {
 pub fn key_join<
     H: Threads + Sync,
     R: Glue + Drop + Sync + Send,
-    Q: Keys<R>,
+    Q: Keys<R> + Sync,
     C: DayCond<R> + Sync,
     G: Gate + Sync,
 >(
@@ -60,7 +61,7 @@ pub fn key_join<
 ) -> Result<Rel<R>, NoMemory>
 where
     R::Fixed: Send,
-    Q::Key: Sync,
+    Q::Key: Send + Sync,
     requires least { 1 ≤ workers }
     requires most { workers ≤ max_workers }
     ensures law { IfOk result (λ r. (d : ℤ) → IsRefDay d → relation_at R.Fixed.cmp R.meaning r d
@@ -76,7 +77,7 @@ where
 pub fn key_join_with<
     H: Threads + Sync,
     R: Glue + Drop + Sync + Send,
-    Q: Keys<R>,
+    Q: Keys<R> + Sync,
     C: DayCond<R> + Sync,
     M: PairMap<R> + Sync,
     G: Gate + Sync,
@@ -93,7 +94,7 @@ pub fn key_join_with<
 ) -> Result<Rel<R>, NoMemory>
 where
     R::Fixed: Send,
-    Q::Key: Sync,
+    Q::Key: Send + Sync,
     requires least { 1 ≤ workers }
     requires most { workers ≤ max_workers }
     ensures law { IfOk result (λ r. (d : ℤ) → IsRefDay d → relation_at R.Fixed.cmp R.meaning r d
@@ -110,12 +111,13 @@ where
 /// condition holds, where it holds on no day of two rows whose spans are empty or do not overlap. Where
 /// there are few left rows, right rows that have none of their keys are passed over. The others are put
 /// in the order of their keys, and each left row is tried with those that have its key and whose spans
-/// overlap its own; the left rows are shared out among the workers. At most the product of rows. Refused
-/// only for want of memory.
+/// overlap its own; the rows of each side are shared out among the workers. At most the product of rows.
+/// Refused only for want of memory.
 pub fn key_span_join<
+    'x,
     H: Threads + Sync,
     R: Glue + Drop + Sync + Send,
-    Q: Keys<R>,
+    Q: Keys<R> + Sync,
     S: Spans<R> + Sync,
     C: DayCond<R> + Sync,
     M: PairMap<R> + Sync,
@@ -124,17 +126,17 @@ pub fn key_span_join<
     rt: &H,
     alloc: Global,
     workers: usize,
-    left: &Rel<R>,
-    right: &Rel<R>,
-    keys: &Q,
-    spans: &S,
-    cond: &C,
-    pair_map: &M,
+    left: &'x Rel<R>,
+    right: &'x Rel<R>,
+    keys: &'x Q,
+    spans: &'x S,
+    cond: &'x C,
+    pair_map: &'x M,
     gate: &G,
 ) -> Result<Rel<R>, NoMemory>
 where
     R::Fixed: Send,
-    Q::Key: Sync,
+    Q::Key: Send + Sync,
     requires least { 1 ≤ workers }
     requires most { workers ≤ max_workers }
     requires told { AreTold R.glued R.meaning (C.holds cond.now) (S.left_of spans.now) (S.right_of spans.now) left.now right.now }
@@ -144,19 +146,15 @@ where
     ensures size { IfOk result (λ r. length r ≤ length left.now * length right.now) }
 {
     let sought = keys_sought(alloc, keys, left, right.len())?;
-    let others = right_by_key(alloc, keys, spans, &sought, right)?;
-    let rows = left_with_others(alloc, keys, spans, left, others.as_slice())?;
-    let hits = par_rows(
-        rt,
-        alloc,
-        workers,
-        rows.as_slice(),
-        &TryRow {
-            spans,
-            cond,
-            pair_map,
-        },
-        gate,
-    )?;
+    let others = right_by_key(rt, alloc, workers, keys, spans, &sought, right, gate)?;
+    let right = GroupedRows::of(alloc, others.as_slice())?;
+    let piece = TryLeft {
+        keys,
+        spans,
+        right: &right,
+        cond,
+        pair_map,
+    };
+    let hits = par_rows(rt, alloc, workers, left.pairs(), &piece, gate)?;
     Ok(Rel::of(hits))
 }

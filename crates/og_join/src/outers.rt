@@ -11,6 +11,7 @@ use crate::spans::Spans;
 use og_base::{ExtDay, FixedPeriod, Glue, NoMemory, Outer};
 use og_rel::Rel;
 use std::alloc::Global;
+use std::marker::Model;
 
 // A span of each row.
 pub(crate) trait SpanOf<R> {
@@ -49,34 +50,59 @@ impl<'a, R: Glue, Q: Spans<R>> SpanOf<R> for OfRight<'a, Q> {
     }
 }
 
-// The spans of the rows, but those without days, with the places of their rows, in rising order of
-// their first days.
+// Spans in rising order of their first days, seen as the list of them.
+#[derive(Drop)]
+pub(crate) struct RisingSpans {
+    spans: Vec<Outer>,
+}
+
+impl Model for RisingSpans {
+    ghost use Rattle.std.specs.Prelude.{List};
+    ghost use Rattle.og_base.specs.declared.comparison.Outer.{Outer};
+    ghost use Rattle.og_join.specs.Overlaps.{Rises};
+
+    ghost Value = { List Outer };
+
+    ghost view = { λ r. r.spans.items };
+
+    ghost invariant = { λ r. Rises (λ o. o.lo) r.spans.items };
+}
+
+impl RisingSpans {
+    // The spans in rising order.
+    pub(crate) fn of(alloc: Global, spans: &[Outer]) -> Result<RisingSpans, NoMemory>
+        ensures { IfOk result (λ r. IsPermutation spans.now r) }
+    {
+        let mut rising = Vec::with_capacity(alloc, spans.len())?;
+        rising.extend_from_slice(spans)?;
+        rising.sort_by_key(
+            |span: &Outer| -> ExtDay
+                ensures { result ≡ span.now.lo }
+            { span.lo },
+        )?;
+        Ok(RisingSpans { spans: rising })
+    }
+
+    // The spans.
+    pub(crate) fn as_slice(&self) -> &[Outer]
+        ensures same { result.now ≡ self.now }
+        ensures rises { Rises (λ o. o.lo) result.now }
+    {
+        self.spans.as_slice()
+    }
+}
+
+// The spans of the rows, but those without days, with the places of their rows, in rising order.
 pub(crate) fn rising_spans<R, S: SpanOf<R>>(
     alloc: Global,
     rel: &Rel<R>,
     side: &S,
-) -> Result<Vec<Outer>, NoMemory>
-    ensures rises { IfOk result (λ v. Rises (λ o. o.lo) v.items) }
-    ensures rows { IfOk result (λ v. AreSpansOf (S.span_of side.now) rel.now v.items) }
-    ensures size { IfOk result (λ v. length v.items ≤ length rel.now) }
+) -> Result<RisingSpans, NoMemory>
+    ensures rows { IfOk result (λ v. AreSpansOf (S.span_of side.now) rel.now v) }
+    ensures size { IfOk result (λ v. length v ≤ length rel.now) }
 {
     let spans = spans_of(alloc, rel, side)?;
-    in_rising_order(alloc, spans.as_slice())
-}
-
-// The spans in rising order of their first days.
-pub(crate) fn in_rising_order(alloc: Global, spans: &[Outer]) -> Result<Vec<Outer>, NoMemory>
-    ensures rises { IfOk result (λ v. Rises (λ o. o.lo) v.items) }
-    ensures same { IfOk result (λ v. IsPermutation spans.now v.items) }
-{
-    let mut rising = Vec::with_capacity(alloc, spans.len())?;
-    rising.extend_from_slice(spans)?;
-    rising.sort_by_key(
-        |span: &Outer| -> ExtDay
-            ensures { result ≡ span.now.lo }
-        { span.lo },
-    )?;
-    Ok(rising)
+    RisingSpans::of(alloc, spans.as_slice())
 }
 
 // The spans of the rows, but those without days, with the places of their rows, in the order of the

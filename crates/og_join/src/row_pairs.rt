@@ -5,7 +5,7 @@ ghost use Rattle.std.specs.List.Sorted.{IsPermutation};
 ghost use Rattle.og_join.specs.Overlaps.{Rises, overlap, overlaps};
 ghost use Rattle.og_join.specs.Tried.{rows_pass};
 
-use crate::outers::in_rising_order;
+use crate::outers::RisingSpans;
 use crate::sweep::candidates;
 use og_base::{NoMemory, Outer, Steps};
 use std::alloc::Global;
@@ -17,16 +17,16 @@ use std::sync::ledger::{Blank, Ledger};
 pub(crate) fn row_pairs(
     alloc: Global,
     left: &[Outer],
-    right: &[Outer],
+    right: &RisingSpans,
 ) -> Result<Vec<(usize, usize)>, NoMemory>
-    requires { Rises (λ o. o.lo) right.now }
     ensures rows { IfOk result (λ v. (t : ℕ → ℕ → Bool) → list_any (λ p. t p.0 p.1) v.items
         ≡ list_any (λ a. list_any (λ b. overlap (λ o. o.lo) (λ o. o.hi) a b && t a.row b.row) right.now) left.now) }
     ensures size { IfOk result (λ v. length v.items ≤ length left.now * length right.now) }
 {
-    let rising = in_rising_order(alloc, left)?;
-    let places = overlapping::<Brand>(alloc, rising.as_slice(), right, Blank::new(1))?;
-    let mut pairs = rows_of_places(alloc, rising.as_slice(), right, places.as_slice())?;
+    let rising = RisingSpans::of(alloc, left)?;
+    let (left, right) = (rising.as_slice(), right.as_slice());
+    let places = overlapping::<Brand>(alloc, left, right, Blank::new(1))?;
+    let mut pairs = rows_of_places(alloc, left, right, places.as_slice())?;
     pairs.sort_unstable();
     Ok(pairs)
 }

@@ -1,167 +1,176 @@
-//! Left rows, each with the right rows of its key, and the hits that are made of them.
-ghost use Rattle.std.specs.Prelude.{◌≡◌, ◌++◌, ◌≤◌, ◌&&◌, ℤ, Bool, List, [], ◌∷◌, IfOk, OnOk, filter, length};
-ghost use Rattle.std.specs.List.{All, Contains, list_any};
-ghost use Rattle.std.specs.List.Sorted.{IsSortedBy};
-ghost use Rattle.std.specs.Ordering.{eq_by_cmp, is_lt, on};
-ghost use Rattle.og_base.specs.Calendar.{IsRefDay};
-ghost use Rattle.og_rel.specs.Relations.{present};
+//! Right rows in the order of their keys, and the hits that are made of left rows and those that have their keys.
+ghost use Rattle.std.specs.Prelude.{◌≡◌, ◌++◌, ◌≤◌, List, [], ◌∷◌, IfOk, OnOk, map};
+ghost use Rattle.std.specs.List.{All};
+ghost use Rattle.std.specs.List.Sorted.{IsPermutation};
+ghost use Rattle.std.specs.Ordering.{on};
+ghost use Rattle.og_par.specs.Limits.{max_workers};
 ghost use Rattle.og_ops.specs.Lending.{lent, ByKey};
 ghost use Rattle.og_rel.specs.declared.pair.Pair.{Pair};
-ghost use Rattle.og_join.specs.Groups.{AreGroupsOf};
-ghost use Rattle.og_join.specs.Joined.{joined, AreTold};
-ghost use Rattle.og_join.specs.SameKey.{AreHits, AreNear, HaveDayKeys, HaveSpans, IsNear, joined_same_key};
-ghost use Rattle.og_join.specs.Sought.{OfSought};
+ghost use Rattle.og_join.specs.SameKey.{AreHits, AreLent, IsNear};
 
-use crate::groups::{Group, group_or_few, large_groups};
+use crate::groups::GroupedRows;
 use crate::keys::Keys;
-use crate::sought::{Sought, is_sought};
+use crate::sought::Sought;
 use crate::span_key::{SpanKey, do_overlap};
 use crate::spans::Spans;
 use og_base::{DayCond, FixedPeriod, Glue, NoMemory, RtSet};
 use og_ops::{Hit, KeyedRow, PairMap, test_pair_with};
-use og_par::Piece;
-use og_rel::Rel;
+use og_par::{Gate, Piece, par_rows};
+use og_rel::{Pair, Rel, blocks_of};
 use std::alloc::Global;
 use std::cmp::Ordering;
-
-// A left row, its days, and the right rows with its key.
-#[derive(Drop)]
-pub(crate) struct SameKey<'s, 'a, R, K> {
-    pub(crate) row: &'a R,
-    pub(crate) days: &'a RtSet,
-    pub(crate) others: &'s [KeyedRow<'a, R, K>],
-}
+use std::thread::Threads;
 
 // The right rows whose keys are sought, and maybe others, with their keys and spans, in the order of the
-// keys.
-pub(crate) fn right_by_key<'a, R: Glue + Drop, Q: Keys<R>, S: Spans<R>>(
+// keys. Each worker puts a block of them in order first.
+pub(crate) fn right_by_key<
+    'a,
+    H: Threads + Sync,
+    R: Glue + Drop + Sync + Send,
+    Q: Keys<R> + Sync,
+    S: Spans<R> + Sync,
+    G: Gate + Sync,
+>(
+    rt: &H,
     alloc: Global,
+    workers: usize,
     keys: &Q,
     spans: &S,
     sought: &Sought<Q::Key>,
     right: &'a Rel<R>,
+    gate: &G,
 ) -> Result<Vec<KeyedRow<'a, R, SpanKey<Q::Key>>>, NoMemory>
-    requires sought { IsSortedBy (λ a b. is_lt (Q.Key.cmp a b)) sought.now.keys.items }
+where
+    R::Fixed: Send,
+    Q::Key: Send + Sync,
+    requires least { 1 ≤ workers }
+    requires most { workers ≤ max_workers }
     ensures rising { IfOk result (λ v. ByKey (on (λ s. s.key) Q.Key.cmp) v.items) }
-    ensures keys { IfOk result (λ v. HaveDayKeys R.meaning (Q.right_of keys.now) v.items) }
-    ensures spans { IfOk result (λ v. HaveSpans (S.right_of spans.now) v.items) }
-    ensures rows { IfOk result (λ v. (t : R.Fixed → Bool) (d : ℤ) → IsRefDay d → OfSought Q.Key.cmp (Q.right_of keys.now) sought.now t →
-        list_any t (present R.meaning (lent v.items) d) ≡ list_any t (present R.meaning right.now d)) }
-    ensures among { IfOk result (λ v. All (Contains right.now) (lent v.items)) }
-    ensures size { IfOk result (λ v. length v.items ≤ length right.now) }
+    ensures lent { IfOk result (λ v. AreLent R.meaning Q.Key.cmp (Q.right_of keys.now) (S.right_of spans.now) sought.now right.now v.items) }
 {
-    let mut rows = lend_right(alloc, keys, spans, sought, right)?;
-    rows.sort_by(
-        |a: &KeyedRow<R, SpanKey<Q::Key>>, b: &KeyedRow<R, SpanKey<Q::Key>>| -> Ordering
-            ensures { result ≡ on (λ s. s.key) Q.Key.cmp a.now.key b.now.key }
-        { a.key.cmp(&b.key) },
-    )?;
+    let blocks = blocks_of(alloc, workers, right.pairs())?;
+    let block = LendBlock {
+        keys,
+        spans,
+        sought,
+    };
+    let mut rows = par_rows(rt, alloc, workers, blocks.as_slice(), &block, gate)?;
+    sort_by_key(&mut rows)?;
     Ok(rows)
 }
 
-// The right rows whose keys are sought, and maybe others, with their keys and spans, in the order of the
-// relation.
+// Lends a block of right rows whose keys are sought, and maybe others, with their keys and spans, in the order of the
+// keys.
+#[derive(Drop)]
+struct LendBlock<'c, Q, S, K: Ord> {
+    keys: &'c Q,
+    spans: &'c S,
+    sought: &'c Sought<K>,
+}
+
+impl<'c, 'a, R: Glue + Drop, Q: Keys<R>, S: Spans<R>> Piece<&'a [Pair<R>]>
+    for LendBlock<'c, Q, S, Q::Key> {
+    ghost use Rattle.std.specs.Prelude.{map};
+    ghost use Rattle.og_join.specs.SameKey.{AreLent};
+
+    type Out = KeyedRow<'a, R, SpanKey<Q::Key>>;
+
+    ghost gives = { λ piece block made. AreLent R.meaning Q.Key.cmp (Q.right_of piece.keys.now) (S.right_of piece.spans.now) piece.sought.now (map (λ p. (p.row, p.days)) block.now) made };
+
+    fn make(
+        &self,
+        alloc: Global,
+        item: &&'a [Pair<R>],
+        out: &mut Vec<KeyedRow<'a, R, SpanKey<Q::Key>>>,
+    ) -> Result<(), NoMemory> {
+        let mut rows = lend_right(alloc, self.keys, self.spans, self.sought, *item)?;
+        sort_by_key(&mut rows)?;
+        out.append(&mut rows)?;
+        Ok(())
+    }
+}
+
+// Puts the rows in the order of their keys.
+fn sort_by_key<'a, R, K: Ord + Drop>(
+    rows: &mut Vec<KeyedRow<'a, R, SpanKey<K>>>,
+) -> Result<(), NoMemory>
+    ensures rising { OnOk result (ByKey (on (λ s. s.key) K.cmp) rows.new.items) }
+    ensures same { OnOk result (IsPermutation rows.old.items rows.new.items) }
+{
+    rows.sort_by(
+        |a: &KeyedRow<R, SpanKey<K>>, b: &KeyedRow<R, SpanKey<K>>| -> Ordering
+            ensures { result ≡ on (λ s. s.key) K.cmp a.now.key b.now.key }
+        { a.key.cmp(&b.key) },
+    )?;
+    Ok(())
+}
+
+// The right rows whose keys are sought, and maybe others, with their keys and spans, in their order.
 fn lend_right<'a, R: Glue + Drop, Q: Keys<R>, S: Spans<R>>(
     alloc: Global,
     keys: &Q,
     spans: &S,
     sought: &Sought<Q::Key>,
-    right: &'a Rel<R>,
+    right: &'a [Pair<R>],
 ) -> Result<Vec<KeyedRow<'a, R, SpanKey<Q::Key>>>, NoMemory>
-    requires sought { IsSortedBy (λ a b. is_lt (Q.Key.cmp a b)) sought.now.keys.items }
-    ensures keys { IfOk result (λ v. HaveDayKeys R.meaning (Q.right_of keys.now) v.items) }
-    ensures spans { IfOk result (λ v. HaveSpans (S.right_of spans.now) v.items) }
-    ensures rows { IfOk result (λ v. (t : R.Fixed → Bool) (d : ℤ) → IsRefDay d → OfSought Q.Key.cmp (Q.right_of keys.now) sought.now t →
-        list_any t (present R.meaning (lent v.items) d) ≡ list_any t (present R.meaning right.now d)) }
-    ensures among { IfOk result (λ v. All (Contains right.now) (lent v.items)) }
-    ensures size { IfOk result (λ v. length v.items ≤ length right.now) }
+    ensures { IfOk result (λ v. AreLent R.meaning Q.Key.cmp (Q.right_of keys.now) (S.right_of spans.now) sought.now (map (λ p. (p.row, p.days)) right.now) v.items) }
 {
     let mut rows = Vec::new(alloc);
-    'rows: for i in 0..right.len() {
-        let row = right.row(i);
-        let days = right.days(i);
-        let key = keys.right(alloc, row)?;
-        if !is_sought(&key, sought) {
+    'rows: for pair in right {
+        let key = keys.right(alloc, &pair.row)?;
+        if !sought.has(&key) {
             continue;
         }
-        let span = spans.right(row);
+        let span = spans.right(&pair.row);
         let key = SpanKey { key, span };
-        rows.push(KeyedRow { key, row, days })?;
+        rows.push(KeyedRow {
+            key,
+            row: &pair.row,
+            days: &pair.days,
+        })?;
     }
     Ok(rows)
-}
-
-// The left rows, each with those of the others that have its key.
-pub(crate) fn left_with_others<'s, 'a, R: Glue + Drop, Q: Keys<R>, S: Spans<R>>(
-    alloc: Global,
-    keys: &Q,
-    spans: &S,
-    left: &'a Rel<R>,
-    others: &'s [KeyedRow<'a, R, SpanKey<Q::Key>>],
-) -> Result<Vec<SameKey<'s, 'a, R, SpanKey<Q::Key>>>, NoMemory>
-    requires rising { ByKey (on (λ s. s.key) Q.Key.cmp) others.now }
-    requires keys { HaveDayKeys R.meaning (Q.right_of keys.now) others.now }
-    requires spans { HaveSpans (S.right_of spans.now) others.now }
-    ensures rows { IfOk result (λ v. (put : R.Fixed → R.Fixed → R.Fixed) (meets : R.Fixed → R.Fixed → Bool) (d : ℤ) → IsRefDay d →
-        joined_same_key R.meaning put meets v.items d
-        ≡ joined put (λ x y. eq_by_cmp Q.Key.cmp (Q.left_of keys.now x) (Q.right_of keys.now y) && meets x y) (present R.meaning left.now d) (present R.meaning (lent others.now) d)) }
-    ensures near { IfOk result (λ v. (holds : ℤ → R.Fixed → Bool) →
-        AreTold R.glued R.meaning holds (S.left_of spans.now) (S.right_of spans.now) left.now (lent others.now) → All (AreNear R.glued R.meaning holds (S.left_of spans.now)) v.items) }
-    ensures most { IfOk result (λ v. All (λ s. length s.others.now ≤ length others.now) v.items) }
-    ensures size { IfOk result (λ v. length v.items ≡ length left.now) }
-{
-    let groups = large_groups(alloc, others)?;
-    let mut rows = Vec::with_capacity(alloc, left.len())?;
-    'rows: for i in 0..left.len() {
-        let row = left.row(i);
-        let key = keys.left(alloc, row)?;
-        let others = of_key(key, spans.left(row), groups.as_slice(), others);
-        let days = left.days(i);
-        rows.push(SameKey { row, days, others })?;
-    }
-    Ok(rows)
-}
-
-// Those of the others that have the key.
-fn of_key<'s, 'a, R, K: Ord + Drop>(
-    key: K,
-    span: FixedPeriod,
-    groups: &[Group<'s, 'a, R, SpanKey<K>>],
-    others: &'s [KeyedRow<'a, R, SpanKey<K>>],
-) -> &'s [KeyedRow<'a, R, SpanKey<K>>]
-    requires rising { ByKey (on (λ s. s.key) K.cmp) others.now }
-    requires grouped { AreGroupsOf (on (λ s. s.key) K.cmp) others.now groups.now }
-    ensures { result.now ≡ filter (λ other. eq_by_cmp K.cmp other.key.key key) others.now }
-{
-    group_or_few(&SpanKey { key, span }, groups, others)
 }
 
 // Makes the hits of a left row and the right rows with its key, where their spans tell which can meet.
 #[derive(Drop)]
-pub(crate) struct TryRow<'c, S, C, M> {
+pub(crate) struct TryLeft<'c, 's, 'a, R, K: Ord, Q, S, C, M> {
+    pub(crate) keys: &'c Q,
     pub(crate) spans: &'c S,
+    pub(crate) right: &'c GroupedRows<'s, 'a, R, SpanKey<K>>,
     pub(crate) cond: &'c C,
     pub(crate) pair_map: &'c M,
 }
 
-impl<'c, 's, 'a, R: Glue + Drop, K, S: Spans<R>, C: DayCond<R>, M: PairMap<R>> Piece<
-    SameKey<'s, 'a, R, SpanKey<K>>,
-> for TryRow<'c, S, C, M> {
+impl<'c, 's, 'a, R: Glue + Drop, Q: Keys<R>, S: Spans<R>, C: DayCond<R>, M: PairMap<R>> Piece<
+    Pair<R>,
+> for TryLeft<'c, 's, 'a, R, Q::Key, Q, S, C, M> {
+    ghost use Rattle.std.specs.Prelude.{[], ◌∷◌};
+    ghost use Rattle.std.specs.Ordering.{eq_by_cmp};
     ghost use Rattle.og_ops.specs.Lending.{lent};
-    ghost use Rattle.og_join.specs.SameKey.{AreHits, AreNear};
+    ghost use Rattle.og_join.specs.Joined.{AreTold};
+    ghost use Rattle.og_join.specs.SameKey.{AreHitsOf, HaveDayKeys, HaveSpans};
 
     type Out = Hit<R>;
 
-    ghost gives = { λ piece s made. AreNear R.glued R.meaning (C.holds piece.cond.now) (S.left_of piece.spans.now) s → AreHits R.glued (M.image piece.pair_map.now) (C.holds piece.cond.now) R.meaning s.row.now s.days.now (lent s.others.now) made };
+    ghost gives = { λ piece pair made. HaveDayKeys R.meaning (Q.right_of piece.keys.now) piece.right.now → HaveSpans (S.right_of piece.spans.now) piece.right.now
+        → AreTold R.glued R.meaning (C.holds piece.cond.now) (S.left_of piece.spans.now) (S.right_of piece.spans.now) ((pair.row, pair.days) ∷ []) (lent piece.right.now)
+        → AreHitsOf R.glued (M.image piece.pair_map.now) (λ x y. eq_by_cmp Q.Key.cmp (Q.left_of piece.keys.now x) (Q.right_of piece.keys.now y)) (C.holds piece.cond.now) R.meaning ((pair.row, pair.days) ∷ []) (lent piece.right.now) made };
 
-    fn make(
-        &self,
-        alloc: Global,
-        item: &SameKey<'s, 'a, R, SpanKey<K>>,
-        out: &mut Vec<Hit<R>>,
-    ) -> Result<(), NoMemory> {
-        let span = self.spans.left(item.row);
-        try_others(alloc, &span, item, self.cond, self.pair_map, out)
+    fn make(&self, alloc: Global, item: &Pair<R>, out: &mut Vec<Hit<R>>) -> Result<(), NoMemory> {
+        let key = self.keys.left(alloc, &item.row)?;
+        let span = self.spans.left(&item.row);
+        let key = SpanKey { key, span };
+        let others = self.right.of_key(&key);
+        try_others(
+            alloc,
+            &key.span,
+            item,
+            others,
+            self.cond,
+            self.pair_map,
+            out,
+        )
     }
 }
 
@@ -169,17 +178,19 @@ impl<'c, 's, 'a, R: Glue + Drop, K, S: Spans<R>, C: DayCond<R>, M: PairMap<R>> P
 fn try_others<R: Glue + Drop, K, C: DayCond<R>, M: PairMap<R>>(
     alloc: Global,
     span: &FixedPeriod,
-    item: &SameKey<'_, '_, R, SpanKey<K>>,
+    left: &Pair<R>,
+    others: &[KeyedRow<'_, R, SpanKey<K>>],
     cond: &C,
     pair_map: &M,
     out: &mut Vec<Hit<R>>,
 ) -> Result<(), NoMemory>
-    ensures { OnOk result ((made : List (Pair R)) × (All (IsNear R.glued R.meaning (C.holds cond.now) span.now item.now.row.now) item.now.others.now → AreHits R.glued (M.image pair_map.now) (C.holds cond.now) R.meaning item.now.row.now item.now.days.now (lent item.now.others.now) made)
+    ensures { OnOk result ((made : List (Pair R)) × (All (IsNear R.glued R.meaning (C.holds cond.now) span.now left.now.row) others.now → AreHits R.glued (M.image pair_map.now) (C.holds cond.now) R.meaning left.now.row left.now.days (lent others.now) made)
         × (out.new.items ≡ out.old.items ++ made)) }
 {
-    let others = item.others;
     'others: for other in others {
-        try_near(alloc, span, item.row, item.days, other, cond, pair_map, out)?;
+        try_near(
+            alloc, span, &left.row, &left.days, other, cond, pair_map, out,
+        )?;
     }
     Ok(())
 }

@@ -8,18 +8,15 @@ ghost use Rattle.og_rel.specs.Relations.{relation_at};
 ghost use Rattle.og_join.specs.Joined as meant;
 ghost use Rattle.og_join.specs.Joined.{joined, AreTold};
 
-use crate::blocks::join_block;
+use crate::blocks::{JoinBlock, blocks_of};
 use crate::outers::{OfLeft, OfRight, rising_spans, spans_of};
-use crate::tries::TryPair;
+use crate::tries::Sides;
 use og_base::{DayCond, ExtDay, FixedPeriod, Glue, Instant, NoMemory};
 use og_ops::{PairMap, Whole};
-use og_par::Gate;
+use og_par::{Gate, par_rows};
 use og_rel::Rel;
 use std::alloc::Global;
 use std::thread::Threads;
-
-// How many left spans a block has; the last one may have fewer.
-const BLOCK: usize = 16_384;
 
 /// Spans of left and of right rows.
 pub trait Spans<R: Instant> {
@@ -104,9 +101,9 @@ where
 
 /// On every day what the map makes of the pairs of rows for which, glued, the condition holds, where it
 /// holds on no day of two rows whose spans are empty or do not overlap. Rows with an empty span are left
-/// out. The left ones are cut into blocks; of each block the pairs whose spans overlap are found by the
-/// first days of these, and shared out among the workers and tried in the order of the left rows. At most
-/// the product of rows. Refused only for want of memory.
+/// out. The left ones are cut into blocks, which are shared out among the workers; of each block the pairs
+/// whose spans overlap are found by the first days of these, and tried in the order of the left rows. At
+/// most the product of rows. Refused only for want of memory.
 pub fn overlap_join_with<
     H: Threads + Sync,
     R: Glue + Drop + Sync + Send,
@@ -137,19 +134,17 @@ where
 {
     let lefts = spans_of(alloc, left, &OfLeft { spans })?;
     let rights = rising_spans(alloc, right, &OfRight { spans })?;
-    let right_spans = rights.as_slice();
-    let pair = TryPair {
+    let sides = Sides {
         left,
         right,
         cond,
         pair_map,
     };
-    let mut joined = Rel::new(alloc);
-    let mut rest = lefts.as_slice();
-    'cuts: while !rest.is_empty() {
-        let (block, later) = rest.split_at(rest.len().min(BLOCK));
-        joined.append(join_block(rt, alloc, workers, block, right_spans, &pair, gate)?)?;
-        rest = later;
-    }
-    Ok(joined)
+    let block = JoinBlock {
+        right_spans: &rights,
+        sides: &sides,
+    };
+    let blocks = blocks_of(alloc, workers, lefts.as_slice())?;
+    let hits = par_rows(rt, alloc, workers, blocks.as_slice(), &block, gate)?;
+    Ok(Rel::of(hits))
 }

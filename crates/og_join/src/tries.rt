@@ -1,50 +1,48 @@
 //! Pairs of rows that are tried, by their places.
 ghost use Rattle.std.specs.Prelude.{◌≡◌, ◌++◌, List, OnOk};
+ghost use Rattle.og_par.specs.Phase.{MadeOfEach};
 ghost use Rattle.og_rel.specs.declared.pair.Pair.{Pair};
 ghost use Rattle.og_join.specs.Tried.{IsMadeOf, rows_meet};
 
 use og_base::{DayCond, Glue, NoMemory};
 use og_ops::{Hit, PairMap, test_pair_with};
-use og_par::Piece;
 use og_rel::Rel;
 use std::alloc::Global;
 
-// Makes of the places of two rows what the map makes of these, where it has days.
+// Two relations, and what is made of a row of each, where the condition holds of the two.
 #[derive(Drop)]
-pub(crate) struct TryPair<'a, R, C, M> {
+pub(crate) struct Sides<'a, R, C, M> {
     pub(crate) left: &'a Rel<R>,
     pub(crate) right: &'a Rel<R>,
     pub(crate) cond: &'a C,
     pub(crate) pair_map: &'a M,
 }
 
-impl<'a, R: Glue + Drop, C: DayCond<R>, M: PairMap<R>> Piece<(usize, usize)>
-    for TryPair<'a, R, C, M> {
-    ghost use Rattle.og_join.specs.Tried.{IsMadeOf, rows_meet};
-
-    type Out = Hit<R>;
-
-    ghost gives = { λ piece places made. IsMadeOf (M.image piece.pair_map.now) R.meaning
-        (rows_meet R.glued R.meaning (C.holds piece.cond.now) piece.left.now piece.right.now places.0 places.1) made };
-
-    fn make(
-        &self,
-        alloc: Global,
-        item: &(usize, usize),
-        out: &mut Vec<Hit<R>>,
-    ) -> Result<(), NoMemory> {
-        let (m, n) = *item;
+// Adds what the map makes of the rows at each pair of places, where it has days.
+pub(crate) fn try_pairs<R: Glue + Drop, C: DayCond<R>, M: PairMap<R>>(
+    alloc: Global,
+    sides: &Sides<'_, R, C, M>,
+    pairs: &[(usize, usize)],
+    out: &mut Vec<Hit<R>>,
+) -> Result<(), NoMemory>
+    ensures { OnOk result ((made : List (Pair R))
+        × MadeOfEach (λ places. IsMadeOf (M.image sides.now.pair_map.now) R.meaning (rows_meet R.glued R.meaning (C.holds sides.now.cond.now) sides.now.left.now sides.now.right.now places.0 places.1)) pairs.now made
+        × (out.new.items ≡ out.old.items ++ made)) }
+{
+    'pairs: for places in pairs {
+        let (m, n) = *places;
         try_rows(
             alloc,
-            self.left,
+            sides.left,
             m,
-            self.right,
+            sides.right,
             n,
-            self.cond,
-            self.pair_map,
+            sides.cond,
+            sides.pair_map,
             out,
-        )
+        )?;
     }
+    Ok(())
 }
 
 // Adds what the map makes of the rows at two places, where it has days.

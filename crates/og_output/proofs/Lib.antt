@@ -1,6 +1,7 @@
 pub mod FieldLemmas
 pub mod LayoutLemmas
 pub mod LongestLemmas
+pub mod OrderedLemmas
 pub mod PutLemmas
 pub mod RangeLemmas
 pub mod RecordLemmas

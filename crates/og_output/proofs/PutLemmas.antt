@@ -1,10 +1,11 @@
 -- What was put into a sink piece after piece, and how much of the whole it is where one of them is refused.
-use Rattle.std.proofs.Common.{◌≡◌, ◌++◌, ◌∷◌, ◌∙◌, ◌+◌, ◌<◌, ℕ, List, [], Option, Result, Ok, Err, Vec, get_or, length, map, take, drop, refl, sym, ap, ap₂, subst, append_assoc}
+use Rattle.std.proofs.Common.{◌≡◌, ◌++◌, ◌∷◌, ◌∙◌, ◌+◌, ◌<◌, ◌≤◌, ℕ, List, [], Option, Result, Ok, Err, Vec, get_or, length, map, slice_range, take, drop, refl, sym, ap, ap₂, subst, append_assoc}
 use Rattle.std.specs.Io.KnownBytes.{Appends}
 use Rattle.std.proofs.KnownBytes.{Appends-nil, Appends-trans}
 use Rattle.std.specs.List.{flat_map}
 use Rattle.std.proofs.lemmas.List.{append-nil, drop_more, take-append-drop, take_more, map-append}
 use Rattle.std.proofs.lemmas.Grind.{flat_map-append}
+use Rattle.std.proofs.lemmas.List.Folds.{drop_split}
 use Rattle.std.proofs.lemmas.List.Concat.{flat_map-cons}
 use Rattle.std.specs.declared.alloc.Global.{Global}
 use Rattle.csv.specs.Writing.{default_writer, row_text}
@@ -79,6 +80,12 @@ put_after old mid new before piece whole (Err puts.NoMemory) is appended put = f
 pub put_within : (old new : Option (List ℕ)) (piece after whole : List ℕ) (refusal : PutRefusal) → whole ≡ piece ++ after → IsPut old new piece (Err refusal) → IsPut old new whole (Err refusal)
 put_within old new piece after whole puts.Failed is put = (front_within old new piece after whole is put.0, λ e. put.1 (front_none piece after (sym is ∙ e)))
 put_within old new piece after whole puts.NoMemory is put = front_within old new piece after whole is put
+
+-- the rows of the blocks from a place on are those of some blocks and of the blocks behind
+pub rows_of_blocks : (blocks : List (Bor (List Fixed))) (i j : ℕ) → i ≤ j → flat_map (λ b. b.now) (drop i blocks) ≡ flat_map (λ b. b.now) (slice_range blocks i j) ++ flat_map (λ b. b.now) (drop j blocks)
+rows_of_blocks blocks i j h =
+    let shown : Bor (List Fixed) → List Fixed = λ b. b.now in
+    ap (flat_map shown) (drop_split blocks i j h) ∙ flat_map-append shown (slice_range blocks i j) (drop j blocks)
 
 -- the rows up to the rest were put
 pub record ArePutUpTo (old now : Option (List ℕ)) (all rest : List Fixed) : Type 0 where

@@ -1,3 +1,4 @@
 pub mod Calendars
+pub mod Ends
 pub mod Puts
 pub mod Records

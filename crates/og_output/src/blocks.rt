@@ -1,6 +1,7 @@
 //! Blocks of rows of one day, and the text that is made of a block.
 ghost use Rattle.std.specs.Prelude.{◌≡◌, IfOk};
 ghost use Rattle.std.specs.List.{flat_map};
+ghost use Rattle.og_rel.specs.Shares.{rows_of};
 
 use crate::rows::rows_text;
 use og_base::NoMemory;
@@ -8,19 +9,20 @@ use og_par::Piece;
 use og_value::Sight;
 use std::alloc::Global;
 
-/// How many rows a block has; the last one may have fewer.
+/// How many rows a block has; the last one of a list may have fewer.
 pub const BLOCK: usize = 1024;
 
-/// The rows cut into blocks.
+/// The rows of the lists cut into blocks. Refused only for want of memory.
 pub fn blocks_of<'a, 'r>(
     alloc: Global,
-    rows: &'a [Sight<'r>],
+    lists: &'a [Vec<Sight<'r>>],
 ) -> Result<Vec<&'a [Sight<'r>]>, NoMemory>
-    ensures { IfOk result (λ v. flat_map (λ b. b.now) v.items ≡ rows.now) }
+    ensures { IfOk result (λ v. flat_map (λ b. b.now) v.items ≡ rows_of lists.now) }
 {
-    // Room for all at once: `collect` asks for less where that is refused, and does not tell.
-    let mut blocks = Vec::with_capacity(alloc, rows.len().div_ceil(BLOCK))?;
-    blocks.extend(rows.chunks(BLOCK))?;
+    let mut blocks = Vec::new(alloc);
+    'lists: for list in lists {
+        blocks.extend(list.chunks(BLOCK))?;
+    }
     Ok(blocks)
 }
 

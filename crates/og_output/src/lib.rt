@@ -13,6 +13,7 @@ mod blocks;
 mod calendar;
 mod fields;
 mod freeze;
+mod ordered;
 mod puts;
 mod range;
 mod records;

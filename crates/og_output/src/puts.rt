@@ -6,6 +6,7 @@ ghost use Rattle.og_value.specs.Cells.{fixed_text};
 ghost use Rattle.og_value.specs.Order.{row_order};
 ghost use Rattle.og_value.specs.Values.{row_at};
 ghost use Rattle.og_rel.specs.Relations.{relation_at};
+ghost use Rattle.og_rel.specs.Shares.{rows_of};
 ghost use Rattle.og_query.specs.Fits.{IsFitQuery, Schemas};
 ghost use Rattle.og_plan.specs.PlanOf.{plan_of};
 ghost use Rattle.og_plan.specs.Text.{line_text, plan_text};
@@ -14,7 +15,7 @@ ghost use Rattle.og_faults.specs.Faults.{fault_line};
 ghost use Rattle.og_output.specs.Puts.{IsPut};
 ghost use Rattle.og_output.specs.Records.{layout, records};
 
-use crate::blocks::{BLOCK, BlockText, blocks_of};
+use crate::blocks::{BlockText, blocks_of};
 use crate::records::header_text;
 use crate::sights::sights_of;
 use og_base::RefDay;
@@ -28,8 +29,9 @@ use og_value::{Row, Schema, Sight};
 use std::alloc::Global;
 use std::thread::Threads;
 
-// How many rows a round has for each of several workers. One alone has a block in each round.
-const SHARE: usize = 8 * BLOCK;
+// How many blocks a round has, whose texts stand in memory at once, where several workers make them. One alone has a
+// block in each round.
+const ROUND: usize = 256;
 
 /// Puts the piece, where it is not empty.
 pub fn put<K: Sink>(piece: &[u8], out: &mut K) -> Result<(), PutRefusal>
@@ -60,70 +62,70 @@ pub fn put_relation<H: Threads + Sync, K: Sink, G: Gate + Sync>(
     ensures put { IsPut (K.written out.old) (K.written out.new) (layout columns.now (relation_at row_order row_at rel.now day)) result }
     ensures counted { IsFaultCount (is_unput result) (K.faults out.old) (K.faults out.new) }
 {
-    let rows = sights_of(rt, alloc, workers, gate, rel, day)?;
-    put_layout(rt, alloc, workers, gate, columns, rows.as_slice(), out)
+    let lists = sights_of(rt, alloc, workers, gate, rel, day)?;
+    put_layout(rt, alloc, workers, gate, columns, lists.as_slice(), out)
 }
 
-// Puts the record of the columns' names, and those of the rows.
+// Puts the record of the columns' names, and those of the rows of the lists.
 fn put_layout<H: Threads + Sync, K: Sink, G: Gate + Sync>(
     rt: &H,
     alloc: Global,
     workers: usize,
     gate: &G,
     columns: &Schema,
-    rows: &[Sight],
+    lists: &[Vec<Sight>],
     out: &mut K,
 ) -> Result<(), PutRefusal>
     requires least { 1 ≤ workers }
     requires most { workers ≤ max_workers }
-    ensures put { IsPut (K.written out.old) (K.written out.new) (layout columns.now rows.now) result }
+    ensures put { IsPut (K.written out.old) (K.written out.new) (layout columns.now (rows_of lists.now)) result }
     ensures counted { IsFaultCount (is_unput result) (K.faults out.old) (K.faults out.new) }
 {
     let header = header_text(alloc, columns)?;
     put(header.as_slice(), out)?;
-    put_rows(rt, alloc, workers, gate, rows, out)
+    let blocks = blocks_of(alloc, lists)?;
+    put_blocks(rt, alloc, workers, gate, blocks.as_slice(), out)
 }
 
-// Puts the records of the rows, those of a round after the other.
-fn put_rows<H: Threads + Sync, K: Sink, G: Gate + Sync>(
+// Puts the records of the rows of the blocks, those of a round after the other.
+fn put_blocks<H: Threads + Sync, K: Sink, G: Gate + Sync>(
     rt: &H,
     alloc: Global,
     workers: usize,
     gate: &G,
-    rows: &[Sight],
+    blocks: &[&[Sight]],
     out: &mut K,
 ) -> Result<(), PutRefusal>
     requires least { 1 ≤ workers }
     requires most { workers ≤ max_workers }
-    ensures put { IsPut (K.written out.old) (K.written out.new) (records (map (map fixed_text) rows.now)) result }
+    ensures put { IsPut (K.written out.old) (K.written out.new) (records (map (map fixed_text) (flat_map (λ b. b.now) blocks.now))) result }
     ensures counted { IsFaultCount (is_unput result) (K.faults out.old) (K.faults out.new) }
 {
-    let round = if workers == 1 { BLOCK } else { workers * SHARE };
+    let round = if workers == 1 { 1 } else { ROUND };
     let mut next = 0;
-    'rounds: while next < rows.len() {
-        let end = next + (rows.len() - next).min(round);
-        put_round(rt, alloc, workers, gate, &rows[next..end], out)?;
+    'rounds: while next < blocks.len() {
+        let end = next + (blocks.len() - next).min(round);
+        put_round(rt, alloc, workers, gate, &blocks[next..end], out)?;
         next = end;
     }
     Ok(())
 }
 
-// Puts the records of the rows of a round, block by block.
+// Puts the records of the rows of the blocks of a round.
 fn put_round<H: Threads + Sync, K: Sink, G: Gate + Sync>(
     rt: &H,
     alloc: Global,
     workers: usize,
     gate: &G,
-    rows: &[Sight],
+    blocks: &[&[Sight]],
     out: &mut K,
 ) -> Result<(), PutRefusal>
     requires least { 1 ≤ workers }
     requires most { workers ≤ max_workers }
-    ensures put { IsPut (K.written out.old) (K.written out.new) (records (map (map fixed_text) rows.now)) result }
+    ensures put { IsPut (K.written out.old) (K.written out.new) (records (map (map fixed_text) (flat_map (λ b. b.now) blocks.now))) result }
     ensures counted { IsFaultCount (is_unput result) (K.faults out.old) (K.faults out.new) }
 {
-    let blocks = blocks_of(alloc, rows)?;
-    let texts = par_rows(rt, alloc, workers, blocks.as_slice(), &BlockText, gate)?;
+    let texts = par_rows(rt, alloc, workers, blocks, &BlockText, gate)?;
     put_texts(texts.as_slice(), out)
 }
 

@@ -1,12 +1,15 @@
 //! The rows of a day, in order.
 ghost use Rattle.std.specs.Prelude.{◌≡◌, ◌≤◌, ◌++◌, ◌∷◌, [], IfOk, OnOk};
+ghost use Rattle.std.specs.List.Sorted.{IsPermutation};
 ghost use Rattle.og_base.specs.Set.{set_of};
 ghost use Rattle.og_par.specs.Limits.{max_workers};
 ghost use Rattle.og_value.specs.Order.{row_order};
 ghost use Rattle.og_value.specs.Values.{row_at};
 ghost use Rattle.og_rel.specs.Pairs.{present_of_pairs};
 ghost use Rattle.og_rel.specs.Relations.{relation_at};
+ghost use Rattle.og_rel.specs.Shares.{rows_of};
 
+use crate::ordered::are_in_order;
 use og_base::{NoMemory, RefDay, rising};
 use og_par::{Gate, Piece, par_rows};
 use og_rel::{Pair, Rel, blocks_of, cuts_among, parts_of, put_together, some_of};
@@ -14,11 +17,12 @@ use og_value::{Row, Sight, order_of_sights};
 use std::alloc::Global;
 use std::thread::Threads;
 
-// From how many rows on several workers put them in order: fewer are in order as soon as the threads have begun.
-const MANY: usize = 65_536;
+// How many rows a worker lists at least: fewer are listed sooner than a thread begins.
+const LEAST: usize = 4096;
 
-/// The rising list of the rows that are present on the day, each once, as they are on the day. No value is copied.
-/// Made by 1 to `MAX_WORKERS` workers of og_par. Refused only for want of memory.
+/// Lists that are, one after the other, the rising list of the rows that are present on the day, each once, as they are
+/// on the day. No value is copied. Made by 1 to `MAX_WORKERS` workers of og_par, each of which lists a block of the
+/// relation. Refused only for want of memory.
 pub fn sights_of<'r, H: Threads + Sync, G: Gate + Sync>(
     rt: &H,
     alloc: Global,
@@ -26,46 +30,36 @@ pub fn sights_of<'r, H: Threads + Sync, G: Gate + Sync>(
     gate: &G,
     rel: &'r Rel<Row>,
     day: RefDay,
-) -> Result<Vec<Sight<'r>>, NoMemory>
+) -> Result<Vec<Vec<Sight<'r>>>, NoMemory>
     requires least { 1 ≤ workers }
     requires most { workers ≤ max_workers }
-    ensures { IfOk result (λ v. v.items ≡ relation_at row_order row_at rel.now day) }
+    ensures { IfOk result (λ v. rows_of v.items ≡ relation_at row_order row_at rel.now day) }
 {
     order_of_sights();
     let pairs = rel.pairs();
-    if workers == 1 || pairs.len() < MANY {
-        gate.enter(0);
-        return rising_sights(alloc, pairs, day);
+    let blocks = blocks_of(alloc, (pairs.len() / LEAST).clamp(1, workers), pairs)?;
+    let lists = par_rows(rt, alloc, workers, blocks.as_slice(), &OnDay { day }, gate)?;
+    if are_in_order(lists.as_slice()) {
+        return Ok(lists);
     }
-    let blocks = blocks_of(alloc, workers, pairs)?;
-    let cuts = cuts_of(alloc, blocks.len().max(1), pairs, day)?;
-    let on_day = OnDay {
-        day,
-        cuts: cuts.as_slice(),
-    };
-    let parts = par_rows(rt, alloc, workers, blocks.as_slice(), &on_day, gate)?;
-    put_together(rt, alloc, cuts.len().saturating_add(1), parts)
+    put_in_order(rt, alloc, pairs, day, lists)
 }
 
-// Makes of a block of pairs the rising list of its rows of a day, in parts: cut before each of the cuts, the last
-// part first.
+// Makes of a block of pairs the rising list of its rows of a day.
 #[derive(Drop)]
-struct OnDay<'c, 'r> {
+struct OnDay {
     day: RefDay,
-    cuts: &'c [Sight<'r>],
 }
 
-impl<'c, 'r> Piece<&'r [Pair<Row>]> for OnDay<'c, 'r> {
-    ghost use Rattle.std.specs.Prelude.{◌≡◌};
-    ghost use Rattle.og_base.specs.Set.{set_of};
+impl<'r> Piece<&'r [Pair<Row>]> for OnDay {
     ghost use Rattle.og_value.specs.Order.{row_order};
     ghost use Rattle.og_value.specs.Values.{row_at};
     ghost use Rattle.og_rel.specs.Pairs.{present_of_pairs};
-    ghost use Rattle.og_rel.specs.Shares.{rows_of};
+    ghost use Rattle.og_rel.specs.Shares.{AreListed};
 
     type Out = Vec<Sight<'r>>;
 
-    ghost gives = { λ piece block made. set_of row_order (rows_of made) ≡ set_of row_order (present_of_pairs row_at block.now piece.day) };
+    ghost gives = { λ piece block made. AreListed row_order (present_of_pairs row_at block.now piece.day) made };
 
     fn make(
         &self,
@@ -75,10 +69,45 @@ impl<'c, 'r> Piece<&'r [Pair<Row>]> for OnDay<'c, 'r> {
     ) -> Result<(), NoMemory> {
         order_of_sights();
         let list = rising_sights(alloc, *item, self.day)?;
-        let mut parts = parts_of(alloc, list, self.cuts)?;
-        out.append(&mut parts)?;
+        out.push(list)?;
         Ok(())
     }
+}
+
+// The rising list of the rows of rising lists: each is cut at the same rows, and workers put the parts between two cuts
+// together.
+fn put_in_order<'r, H: Threads + Sync>(
+    rt: &H,
+    alloc: Global,
+    pairs: &'r [Pair<Row>],
+    day: RefDay,
+    lists: Vec<Vec<Sight<'r>>>,
+) -> Result<Vec<Vec<Sight<'r>>>, NoMemory>
+    ensures { IfOk result (λ v. rows_of v.items ≡ set_of row_order (rows_of lists.entry.items)) }
+{
+    order_of_sights();
+    let cuts = cuts_of(alloc, lists.len().max(1), pairs, day)?;
+    let parts = parts_of_lists(alloc, lists, cuts.as_slice())?;
+    let rows = put_together(rt, alloc, cuts.len().saturating_add(1), parts)?;
+    let mut all = Vec::with_capacity(alloc, 1)?;
+    all.push(rows)?;
+    Ok(all)
+}
+
+// The parts of the lists, each cut before each of the cuts, the last part first.
+fn parts_of_lists<'r>(
+    alloc: Global,
+    lists: Vec<Vec<Sight<'r>>>,
+    cuts: &[Sight<'r>],
+) -> Result<Vec<Vec<Sight<'r>>>, NoMemory>
+    ensures { IfOk result (λ v. IsPermutation (rows_of lists.entry.items) (rows_of v.items)) }
+{
+    let mut parts = Vec::new(alloc);
+    'lists: for list in lists {
+        let mut more = parts_of(alloc, list, cuts)?;
+        parts.append(&mut more)?;
+    }
+    Ok(parts)
 }
 
 // Rows of the day, falling, before which the rows are cut into so many shares or fewer.
