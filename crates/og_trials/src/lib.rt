@@ -5,17 +5,12 @@
 //! top call, `run` of og_session, once or in many ways: over devices in memory, of which the files note what
 //! is written to them. In many ways it also compares what `print_script` prints, and has the queries answered
 //! by plans with several workers and by the plain evaluator. The programs og_cases and og_large_cases are this
-//! call and their files. Of two tests one has two workers of a run meet at a gate, and one counts the calls
-//! of a run that ends with a fault.
+//! call and their files.
 #![tactic(auto)]
 
 mod answers;
-#[cfg(test)]
-mod calls;
 mod ends;
 mod failing;
-#[cfg(test)]
-mod gates;
 mod noted;
 mod program;
 mod queries;
