@@ -116,10 +116,6 @@ changed_same name (h ∷ hs) = λ i. as_it_was (bytes_eq name h.name) i ∷ chan
     as_it_was true = refl
     as_it_was false = refl
 
--- and a name whose own rows are put in their place
-pub put_at-own : {V : Type 0} (name : List ℕ) (old : V) (db : List (Held V)) → rows_of db name ≡ Some old → IsDistinct bytes_eq (map (λ h. h.name) db) → put_at name old db ≡ db
-put_at-own name old db is apart = put_at-made name old (λ rows. rows) db is apart ∙ changed_same name db
-
 module _ {V W : Type 0} (f : V → W) where
   -- one more name
   pub all_made_of-push : (hs : List (Held V)) (h : Held V) → all_made_of f (hs ++ h ∷ []) ≡ all_made_of f hs ++ made_of f h ∷ []

@@ -1,6 +1,7 @@
 //! The nodes of a plan that filter, multiply or project rows.
 ghost use Rattle.std.specs.Prelude.{◌≡◌, ◌≤◌, ◌*◌, ℤ, true, IfOk, length, filter};
 ghost use Rattle.og_base.specs.Calendar.{IsRefDay};
+ghost use Rattle.og_par.specs.Limits.{max_workers};
 ghost use Rattle.og_query.specs.Queries.{image};
 ghost use Rattle.og_plan.specs.Meaning.{all_hold, matches};
 ghost use Rattle.og_exec.specs.Answers.{rel_of};
@@ -10,24 +11,31 @@ ghost use Rattle.og_exec.specs.Tables.{rows_on};
 use crate::answer::{Answer, Inputs, made};
 use og_base::NoMemory;
 use og_expr::{ItemMap, PartDays};
-use og_ops::{BinaryOp, Product, Project, Select, UnaryOp};
+use og_ops::{BinaryOp, Product, Project, Select};
+use og_par::Gate;
 use og_query::{Cond, Expr};
 use og_value::{Row, order_of_rows};
 use sqlite_items::Items;
 use std::alloc::Global;
+use std::thread::Threads;
 
 // The rows for which all parts hold.
-pub(crate) fn filtered<'t>(
+pub(crate) fn filtered<'t, H: Threads + Sync, G: Gate + Sync>(
+    rt: &H,
     alloc: Global,
+    workers: usize,
     input: Answer<'_>,
     parts: &Items<Cond>,
+    gate: &G,
 ) -> Result<Answer<'t>, NoMemory>
+    requires least { 1 ≤ workers }
+    requires most { workers ≤ max_workers }
     ensures law { IfOk result (λ a. (d : ℤ) → IsRefDay d → rows_on (rel_of a) d ≡ filter (all_hold d parts.now) (rows_on (rel_of input.entry) d)) }
     ensures size { IfOk result (λ a. length (rel_of a) ≤ length (rel_of input.entry)) }
 {
     order_of_rows();
     let cond = PartDays { parts };
-    made(Select { cond }.apply(alloc, input.rel()))
+    made(Select { cond }.apply_by_workers(rt, alloc, workers, input.rel(), gate))
 }
 
 // All combinations of a left and a right row.
@@ -40,11 +48,16 @@ pub(crate) fn multiplied<'t>(alloc: Global, inputs: Inputs<'_>) -> Result<Answer
 }
 
 // The images of the rows.
-pub(crate) fn projected<'t>(
+pub(crate) fn projected<'t, H: Threads + Sync, G: Gate + Sync>(
+    rt: &H,
     alloc: Global,
+    workers: usize,
     input: Answer<'_>,
     items: &Items<Expr>,
+    gate: &G,
 ) -> Result<Answer<'t>, NoMemory>
+    requires least { 1 ≤ workers }
+    requires most { workers ≤ max_workers }
     ensures law { IfOk result (λ a. (d : ℤ) → IsRefDay d → rows_on (rel_of a) d ≡ images (image d items.now) (rows_on (rel_of input.entry) d)) }
     ensures size { IfOk result (λ a. length (rel_of a) ≤ length (rel_of input.entry)) }
 {
@@ -52,5 +65,5 @@ pub(crate) fn projected<'t>(
     let items = ItemMap {
         items: items.as_slice(),
     };
-    made(Project { items }.apply(alloc, input.rel()))
+    made(Project { items }.apply_by_workers(rt, alloc, workers, input.rel(), gate))
 }

@@ -32,8 +32,8 @@ use std::alloc::Global;
 use std::thread::Threads;
 
 /// The answer of a plan on every day: on each it has the rows that the plan means over the tables of
-/// that day, and it has at most as many rows as the size of the plan says. Joins are shared out among
-/// the workers. Refused only for want of memory.
+/// that day, and it has at most as many rows as the size of the plan says. Joins, filters, projections, set
+/// operators and EXISTS are shared out among the workers. Refused only for want of memory.
 pub fn exec<H: Threads + Sync, T: Tables<Row>, G: Gate + Sync>(
     rt: &H,
     alloc: Global,
@@ -78,7 +78,7 @@ fn answer_of<'t, H: Threads + Sync, T: Tables<Row>, G: Gate + Sync>(
         Plan::Scan { name, .. } => Ok(lent(alloc, name, tables)),
         Plan::Filter { input, parts } => {
             let input = answer_of(rt, alloc, input.get(), tables, workers, gate)?;
-            filtered(alloc, input, parts)
+            filtered(rt, alloc, workers, input, parts, gate)
         }
         Plan::Product { left, right } => {
             let inputs = both(rt, alloc, left, right, tables, workers, gate)?;
@@ -108,11 +108,11 @@ fn answer_of<'t, H: Threads + Sync, T: Tables<Row>, G: Gate + Sync>(
         }
         Plan::Combine { op, left, right } => {
             let inputs = both(rt, alloc, left, right, tables, workers, gate)?;
-            combined(alloc, *op, inputs)
+            combined(rt, alloc, workers, *op, inputs, gate)
         }
         Plan::Semis { input, semis } => {
             let input = answer_of(rt, alloc, input.get(), tables, workers, gate)?;
-            sifted(alloc, input, semis.as_slice(), tables)
+            sifted(rt, alloc, workers, input, semis.as_slice(), tables, gate)
         }
     }
 }
@@ -159,7 +159,7 @@ fn images_of<'t, H: Threads + Sync, T: Tables<Row>, G: Gate + Sync>(
         }
         _ => {
             let input = answer_of(rt, alloc, plan, tables, workers, gate)?;
-            projected(alloc, input, items)
+            projected(rt, alloc, workers, input, items, gate)
         }
     }
 }

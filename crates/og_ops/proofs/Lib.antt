@@ -1,4 +1,5 @@
 pub mod DayLemmas
+pub mod EachLemmas
 pub mod KeyLemmas
 pub mod MemberLemmas
 pub mod MetLemmas

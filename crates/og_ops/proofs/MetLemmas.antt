@@ -1,5 +1,5 @@
 -- Whether a row meets some of the rows that are lent from a relation: of one more row, and of the rows in another order.
-use Rattle.std.proofs.Common.{◌≡◌, ◌++◌, ◌+◌, ◌<◌, ◌≤◌, ◌&&◌, ◌||◌, ℕ, ℤ, Bool, true, false, List, [], ◌∷◌, length, get_or, filter, take, if◌then◌else◌, Ordering, sym, ap, ◌∙◌}
+use Rattle.std.proofs.Common.{◌≡◌, ◌++◌, ◌+◌, ◌<◌, ◌&&◌, ◌||◌, ℕ, ℤ, Bool, true, false, List, [], ◌∷◌, length, get_or, filter, take, if◌then◌else◌, Ordering, sym, ap, ◌∙◌}
 use Rattle.std.specs.List.{list_any}
 use Rattle.std.specs.List.Sorted.{IsPermutation}
 use Rattle.std.proofs.Math.Bool.{and-false, and-true, or-false}
@@ -8,15 +8,14 @@ use Rattle.std.proofs.lemmas.List.Elements.{filter_agree}
 use Rattle.std.proofs.lemmas.List.Folds.{list_any-append}
 use Rattle.std.proofs.lemmas.List.Sorted.{IsPermutation-map, list_any-IsPermutation}
 use Rattle.og_base.specs.Ranges.{Range, holds_day}
-use Rattle.og_base.specs.Set.{IsExactOrder, set_of}
-use Rattle.og_base.proofs.SetLemmas.{filter-set_of}
+use Rattle.og_base.specs.Set.{IsExactOrder}
 use Rattle.og_base.proofs.SetMembers.{list_any-set_of}
 use Rattle.og_rel.specs.Relations.{present, relation_at}
-use Rattle.og_rel.proofs.PresentLemmas.{at_place, present-append, list_any-present}
+use Rattle.og_rel.proofs.PresentLemmas.{present-append, list_any-present}
 use Rattle.og_ops.specs.declared.semijoins.KeyedRow.{KeyedRow}
 use Rattle.og_ops.specs.Lending.{lent}
 use Rattle.og_ops.specs.Wanted.{is_wanted}
-use Rattle.og_ops.proofs.RowLemmas.{made_all}
+use Rattle.og_ops.proofs.EachLemmas.{passing_at}
 
 module _ {F : Type 0} (t : F → Bool) (x : F) where
   -- a test of a row that is there on its days
@@ -49,22 +48,14 @@ module _ {R F K : Type 0} (at : R → ℤ → F) (t : F → Bool) (d : ℤ) wher
       ∙ sym (list_any-IsPermutation (λ p. holds_day p.1 d && t (at p.0 d)) (lent rows) (lent sorted) (IsPermutation-map (λ q. (q.row.now, q.days.now)) rows sorted moved))
       ∙ sym (list_any-present at t (lent rows) d)
 
--- one more row that is lent, at its place
-pub lent_more : {R K : Type 0} (rel : List (R × List Range)) (old new : List (KeyedRow R K)) (i : ℕ) (s : KeyedRow R K) → i < length rel → new ≡ old ++ s ∷ []
-    → ((p : R × List Range) → s.row.now ≡ (get_or rel i p).0) → ((p : R × List Range) → s.days.now ≡ (get_or rel i p).1) → lent old ≡ take i rel → lent new ≡ take (i + 1) rel
-lent_more {R} rel old new i s l e row_is days_is before =
-    let p : R × List Range = (s.row.now, s.days.now) in
-    ap lent e ∙ map-append (λ q. (q.row.now, q.days.now)) old (s ∷ []) ∙ ap (λ q. q ++ p ∷ []) before
-    ∙ sym (take_more rel i p l ∙ ap (λ q. take i rel ++ q ∷ []) (sym (at_place rel i s.row.now s.days.now row_is days_is)))
-
--- what is kept of the rows of as many places as there are, by tests of the rows that are lent, is what is kept of the relation by tests of the other one
-pub met_law : {R F : Type 0} {cmp : F → F → Ordering} → IsExactOrder cmp → (at : R → ℤ → F) (meets : F → F → Bool) (wanted : Bool) (left right others kept : List (R × List Range)) (n : ℕ) (d : ℤ)
-    → length left ≤ n → ((t : F → Bool) → list_any t (present at others d) ≡ list_any t (present at right d))
-    → present at kept d ≡ filter (λ x. is_wanted wanted (list_any (meets x) (present at others d))) (present at (take n left) d)
+-- what is kept of the rows of a relation, by tests of right rows that are lent, is what is kept by tests of the right relation
+pub met_law : {R F : Type 0} {cmp : F → F → Ordering} → IsExactOrder cmp → (at : R → ℤ → F) (meets : F → F → Bool) (wanted : Bool) (given others : List (KeyedRow R ℕ)) (left right kept : List (R × List Range)) (d : ℤ)
+    → given ≡ others → ((t : F → Bool) → list_any t (present at (lent others) d) ≡ list_any t (present at right d))
+    → present at kept d ≡ filter (λ x. is_wanted wanted (list_any (meets x) (present at (lent given) d))) (present at left d)
     → relation_at cmp at kept d ≡ filter (λ x. is_wanted wanted (list_any (meets x) (relation_at cmp at right d))) (relation_at cmp at left d)
-met_law {F = F} {cmp = cmp} o at meets wanted left right others kept n d l same e =
-    let p : F → Bool = λ x. is_wanted wanted (list_any (meets x) (present at others d)) in
+met_law {F = F} {cmp = cmp} o at meets wanted given others left right kept d is same e =
+    let p : F → Bool = λ x. is_wanted wanted (list_any (meets x) (present at (lent given) d)) in
     let q : F → Bool = λ x. is_wanted wanted (list_any (meets x) (relation_at cmp at right d)) in
-    ap (set_of cmp) (made_all at (filter p) left kept n d l e)
-    ∙ sym (filter-set_of o p (present at left d))
-    ∙ filter_agree p q (λ x. ap (is_wanted wanted) (same (meets x) ∙ sym (list_any-set_of o.exact (meets x) (present at right d)))) (relation_at cmp at left d)
+    passing_at o at p left kept d e
+    ∙ filter_agree p q (λ x. ap (is_wanted wanted)
+    (ap (λ rows. list_any (meets x) (present at (lent rows) d)) is ∙ same (meets x) ∙ sym (list_any-set_of o.exact (meets x) (present at right d)))) (relation_at cmp at left d)

@@ -1,18 +1,17 @@
 -- The rows of a day that an operator makes of those of a relation: of one row, and of all.
-use Rattle.std.proofs.Common.{◌≡◌, ◌↔◌, ◌++◌, ◌+◌, ◌*◌, ◌<◌, ◌≤◌, ◌&&◌, ◌||◌, ℕ, ℤ, Bool, true, false, not, List, [], ◌∷◌, length, get_or, map, filter, take, if◌then◌else◌, Ordering, refl, sym, ap, ap₂, ◌∙◌, subst, arith}
+use Rattle.std.proofs.Common.{◌≡◌, ◌↔◌, ◌++◌, ◌+◌, ◌*◌, ◌≤◌, ◌&&◌, ◌||◌, ℕ, ℤ, Bool, true, false, not, List, [], ◌∷◌, length, map, filter, take, if◌then◌else◌, Ordering, refl, sym, ap, ap₂, ◌∙◌, subst, arith}
 use Rattle.std.specs.List.{list_any}
 use Rattle.std.specs.Ordering.{eq_by_cmp}
 use Rattle.std.proofs.lemmas.Cmp.{eq_by_cmp_equiv}
 use Rattle.std.proofs.lemmas.Grind.{flat_map-append}
 use Rattle.std.proofs.lemmas.List.{append-nil, length-append, map-append, take_all}
-use Rattle.std.proofs.lemmas.List.Folds.{list_any-append}
 use Rattle.og_base.specs.Ranges.{Range, holds_day}
-use Rattle.og_base.specs.Set.{IsExact, IsExactOrder, set_of}
+use Rattle.og_base.specs.Set.{IsExactOrder, set_of}
 use Rattle.og_base.proofs.SetLemmas.{eq_by_cmp-exact}
 use Rattle.og_base.proofs.SetMembers.{list_any-map, list_any-set_of}
 use Rattle.og_rel.specs.Algebra.{is_in}
-use Rattle.og_rel.specs.Relations.{present, relation_at, stored}
-use Rattle.og_rel.proofs.PresentLemmas.{at_place, present-more, present-push}
+use Rattle.og_rel.specs.Relations.{present, stored}
+use Rattle.og_rel.proofs.PresentLemmas.{present-push}
 use Rattle.og_rel.proofs.AlgebraLemmas.{same_set_by_tests, list_any-flat_map}
 use Rattle.og_ops.specs.Plain.{replaced, products}
 
@@ -31,19 +30,6 @@ module _ {R F : Type 0} (at : R → ℤ → F) where
   pub made_all : (f : List F → List F) (rel new : List (R × List Range)) (n : ℕ) (d : ℤ) → length rel ≤ n → present at new d ≡ f (present at (take n rel) d) → present at new d ≡ f (present at rel d)
   made_all f rel new n d l e = e ∙ ap (λ all. f (present at all d)) (take_all n rel l)
 
-  -- a test of the rows of a day of one more place
-  pub found_more : (t : F → Bool) (rel : List (R × List Range)) (i : ℕ) (row : R) (days : List Range) (d : ℤ) → i < length rel
-      → ((p : R × List Range) → row ≡ (get_or rel i p).0) → ((p : R × List Range) → days ≡ (get_or rel i p).1)
-      → (list_any t (present at (take i rel) d) || list_any t (present at ((row, days) ∷ []) d)) ≡ list_any t (present at (take (i + 1) rel) d)
-  found_more t rel i row days d l row_is days_is =
-      let p : R × List Range = (row, days) in
-      sym (ap (list_any t) (present-more at rel i p d l (at_place rel i row days row_is days_is)) ∙ list_any-append t (present at (take i rel) d) (present at (p ∷ []) d))
-
-  -- a test of the rows of a day of as many places as there are
-  pub found_all : {cmp : F → F → Ordering} → IsExact cmp → (t : F → Bool) (rel : List (R × List Range)) (n : ℕ) (d : ℤ) → length rel ≤ n
-      → list_any t (present at (take n rel) d) ≡ list_any t (relation_at cmp at rel d)
-  found_all exact t rel n d l = ap (λ all. list_any t (present at all d)) (take_all n rel l) ∙ sym (list_any-set_of exact t (present at rel d))
-
 -- one more row, or none, is pushed
 pub pushed_size : {R : Type 0} (old new : List (R × List Range)) (row : R) (days : List Range) → new ≡ old ++ stored row days → length new ≤ length old + 1
 pushed_size old new row days e =
@@ -55,11 +41,6 @@ pushed_size old new row days e =
 pub filter-one : {F : Type 0} (p : F → Bool) (x : F) (h k : Bool) → k ≡ (h && p x) → (if k then x ∷ [] else []) ≡ filter p (if h then x ∷ [] else [])
 filter-one p x true k e = ap (λ b. if b then x ∷ [] else []) e
 filter-one p x false k e = ap (λ b. if b then x ∷ [] else []) e
-
--- the image of a row on its days is the images of the row of the day
-pub map-one : {F : Type 0} (f : F → F) (x : F) (h : Bool) → (if h then f x ∷ [] else []) ≡ map f (if h then x ∷ [] else [])
-map-one f x true = refl
-map-one f x false = refl
 
 -- a row where the test does not hold, and its image where it does, is the row replaced
 pub replaced-one : {F : Type 0} (p : F → Bool) (f : F → F) (x : F) (h others changed : Bool) → others ≡ (h && not (p x)) → changed ≡ (h && p x)

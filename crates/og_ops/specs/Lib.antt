@@ -1,4 +1,5 @@
 pub mod Days
+pub mod Each
 pub mod Keyed
 pub mod Lending
 pub mod Members

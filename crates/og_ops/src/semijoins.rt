@@ -5,18 +5,23 @@ ghost use Rattle.std.specs.List.Sorted.{IsPartitionedBy, IsPartitionPoint};
 ghost use Rattle.std.specs.Ordering.{eq_by_cmp, is_lt, is_le, nat_cmp};
 ghost use Rattle.og_base.specs.Calendar.{IsRefDay};
 ghost use Rattle.og_base.specs.Ranges.{Range, holds_day};
+ghost use Rattle.og_par.specs.Limits.{max_workers};
 ghost use Rattle.og_rel.specs.Relations.{present, relation_at};
 ghost use Rattle.og_ops.specs.Lending.{lent, ByKey};
 ghost use Rattle.og_ops.specs.Members.{AreMembers};
 ghost use Rattle.og_ops.specs.Wanted.{is_wanted};
 
+use crate::each_row::{EachRow, each_row, each_row_by_workers};
 use crate::matching::Matching;
 use crate::puts::put_row;
 use crate::sift::wanted_days;
 use og_base::{Glue, Groups, NoMemory, RtSet};
+use og_par::Gate;
 use og_rel::Rel;
 use std::alloc::Global;
 use std::cmp::Ordering;
+use std::marker::Model;
+use std::thread::Threads;
 
 /// A row of a relation, its days, and its key.
 #[derive(Drop)]
@@ -42,19 +47,102 @@ pub fn semijoin<R: Glue + Drop, M: Matching<R>>(
     ensures size { IfOk result (λ r. length r ≤ length left.now) }
 {
     let others = by_group(alloc, matching, right)?;
-    let mut kept = Rel::new(alloc);
-    'rows: for i in 0..left.len() {
-        keep_row_that_meets(
-            alloc,
+    let meeting = Meeting::of(matching, wanted, others.as_slice());
+    each_row(alloc, &meeting, left)
+}
+
+/// What `semijoin` gives, made by 1 to 64 workers, which share out the left rows. Refused only for want of
+/// memory.
+pub fn semijoin_by_workers<
+    H: Threads + Sync,
+    R: Glue + Drop + Sync + Send,
+    M: Matching<R> + Sync,
+    G: Gate + Sync,
+>(
+    rt: &H,
+    alloc: Global,
+    workers: usize,
+    matching: &M,
+    wanted: bool,
+    left: &Rel<R>,
+    right: &Rel<R>,
+    gate: &G,
+) -> Result<Rel<R>, NoMemory>
+where
+    R::Fixed: Send,
+    requires least { 1 ≤ workers }
+    requires most { workers ≤ max_workers }
+    ensures law { IfOk result (λ r. (d : ℤ) → IsRefDay d → relation_at R.Fixed.cmp R.meaning r d
+        ≡ filter (λ x. is_wanted wanted (list_any (M.meets matching.now d x) (relation_at R.Fixed.cmp R.meaning right.now d))) (relation_at R.Fixed.cmp R.meaning left.now d)) }
+    ensures size { IfOk result (λ r. length r ≤ length left.now) }
+{
+    let others = by_group(alloc, matching, right)?;
+    let meeting = Meeting::of(matching, wanted, others.as_slice());
+    each_row_by_workers(rt, alloc, workers, &meeting, left, gate)
+}
+
+// A matching, the wanted truth, and right rows in the order of their groups.
+#[derive(Drop)]
+struct Meeting<'a, R: Glue + Drop, M: Matching<R>> {
+    matching: &'a M,
+    wanted: bool,
+    others: &'a [KeyedRow<'a, R, u64>],
+}
+
+impl<'a, R: Glue + Drop, M: Matching<R>> Model for Meeting<'a, R, M> {
+    ghost use Rattle.std.specs.Prelude.{Bool, List, ℕ};
+    ghost use Rattle.std.specs.Ordering.{nat_cmp};
+    ghost use Rattle.og_ops.specs.Lending.{lent, ByKey};
+    ghost use Rattle.og_ops.specs.Members.{AreMembers};
+    ghost use Rattle.og_ops.specs.declared.semijoins.KeyedRow.{KeyedRow};
+
+    ghost Value = { M × Bool × List (KeyedRow R ℕ) };
+
+    ghost view = { λ s. (s.matching.now, s.wanted, s.others.now) };
+
+    ghost invariant = { λ s. ByKey nat_cmp s.others.now × AreMembers (M.standing s.matching.now) (lent s.others.now) s.others.now };
+}
+
+impl<'a, R: Glue + Drop, M: Matching<R>> Meeting<'a, R, M> {
+    // Of right rows in the order of their groups.
+    fn of(matching: &'a M, wanted: bool, others: &'a [KeyedRow<'a, R, u64>]) -> Meeting<'a, R, M>
+        requires rising { ByKey nat_cmp others.now }
+        requires groups { AreMembers (M.standing matching.now) (lent others.now) others.now }
+        ensures { result ≡ (matching.now, wanted, others.now) }
+    {
+        Meeting {
             matching,
             wanted,
-            left.row(i),
-            left.days(i),
-            others.as_slice(),
-            &mut kept,
-        )?;
+            others,
+        }
     }
-    Ok(kept)
+}
+
+impl<'a, R: Glue + Drop, M: Matching<R>> EachRow<R> for Meeting<'a, R, M> {
+    ghost use Rattle.std.specs.Prelude.{filter};
+    ghost use Rattle.std.specs.List.{list_any};
+    ghost use Rattle.std.proofs.lemmas.List.Elements.{filter-append};
+    ghost use Rattle.og_rel.specs.Relations.{present};
+    ghost use Rattle.og_ops.specs.Lending.{lent};
+    ghost use Rattle.og_ops.specs.Wanted.{is_wanted};
+
+    ghost becomes = { λ s d xs. filter (λ x. is_wanted s.1 (list_any (M.meets s.0 d x) (present R.meaning (lent s.2) d))) xs };
+
+    ghost most_of_one = { λ s. 1 };
+
+    fn put(&self, alloc: Global, row: &R, days: &RtSet, made: &mut Rel<R>) -> Result<(), NoMemory> {
+        keep_row_that_meets(
+            alloc,
+            self.matching,
+            self.wanted,
+            row,
+            days,
+            self.others,
+            made,
+        )
+    }
+
+    ghost along = { λ s d xs ys. filter-append (λ x. is_wanted s.1 (list_any (M.meets s.0 d x) (present R.meaning (lent s.2) d))) xs ys };
 }
 
 // Adds the row on those of its days on which it meets some of the other rows, or none of them.

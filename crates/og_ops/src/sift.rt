@@ -2,19 +2,38 @@
 ghost use Rattle.std.specs.Prelude.{◌≡◌, ◌++◌, ◌+◌, ◌≤◌, ◌&&◌, ℤ, [], ◌∷◌, IfOk, OnOk, filter, length};
 ghost use Rattle.og_base.specs.Calendar.{IsRefDay};
 ghost use Rattle.og_base.specs.Ranges.{holds_day};
+ghost use Rattle.og_par.specs.Limits.{max_workers};
 ghost use Rattle.og_rel.specs.Relations.{present, relation_at};
 ghost use Rattle.og_ops.specs.Wanted.{is_wanted};
 
+use crate::each_row::{EachRow, each_row, each_row_by_workers};
 use crate::operator::UnaryOp;
 use crate::puts::put_row;
 use og_base::{DayCond, Glue, NoMemory, RtSet};
+use og_par::Gate;
 use og_rel::Rel;
 use std::alloc::Global;
+use std::thread::Threads;
 
 /// The rows of which a condition holds.
 #[derive(Drop)]
 pub struct Select<C> {
     pub cond: C,
+}
+
+impl<R: Glue + Drop, C: DayCond<R>> EachRow<R> for Select<C> {
+    ghost use Rattle.std.specs.Prelude.{filter};
+    ghost use Rattle.std.proofs.lemmas.List.Elements.{filter-append};
+
+    ghost becomes = { λ op d xs. filter (C.holds op.cond d) xs };
+
+    ghost most_of_one = { λ op. 1 };
+
+    fn put(&self, alloc: Global, row: &R, days: &RtSet, made: &mut Rel<R>) -> Result<(), NoMemory> {
+        keep_row(alloc, &self.cond, true, row, days, made)
+    }
+
+    ghost along = { λ op d xs ys. filter-append (C.holds op.cond d) xs ys };
 }
 
 impl<R: Glue + Drop, C: DayCond<R>> UnaryOp<R> for Select<C> {
@@ -25,7 +44,30 @@ impl<R: Glue + Drop, C: DayCond<R>> UnaryOp<R> for Select<C> {
     ghost most = { λ op n. n };
 
     fn apply(&self, alloc: Global, rel: &Rel<R>) -> Result<Rel<R>, NoMemory> {
-        sifted(alloc, &self.cond, true, rel)
+        each_row(alloc, self, rel)
+    }
+}
+
+impl<C> Select<C> {
+    /// What `apply` gives, made by 1 to 64 workers. Refused only for want of memory.
+    pub fn apply_by_workers<H: Threads + Sync, R: Glue + Drop + Sync + Send, G: Gate + Sync>(
+        &self,
+        rt: &H,
+        alloc: Global,
+        workers: usize,
+        rel: &Rel<R>,
+        gate: &G,
+    ) -> Result<Rel<R>, NoMemory>
+    where
+        C: DayCond<R> + Sync,
+        R::Fixed: Send,
+        requires least { 1 ≤ workers }
+        requires most { workers ≤ max_workers }
+        ensures law { IfOk result (λ r. (d : ℤ) → IsRefDay d →
+            relation_at R.Fixed.cmp R.meaning r d ≡ filter (C.holds self.now.cond d) (relation_at R.Fixed.cmp R.meaning rel.now d)) }
+        ensures size { IfOk result (λ r. length r ≤ length rel.now) }
+    {
+        each_row_by_workers(rt, alloc, workers, self, rel, gate)
     }
 }
 
@@ -33,6 +75,21 @@ impl<R: Glue + Drop, C: DayCond<R>> UnaryOp<R> for Select<C> {
 #[derive(Drop)]
 pub struct Restrict<C> {
     pub cond: C,
+}
+
+impl<R: Glue + Drop, C: DayCond<R>> EachRow<R> for Restrict<C> {
+    ghost use Rattle.std.specs.Prelude.{filter, not};
+    ghost use Rattle.std.proofs.lemmas.List.Elements.{filter-append};
+
+    ghost becomes = { λ op d xs. filter (λ x. not (C.holds op.cond d x)) xs };
+
+    ghost most_of_one = { λ op. 1 };
+
+    fn put(&self, alloc: Global, row: &R, days: &RtSet, made: &mut Rel<R>) -> Result<(), NoMemory> {
+        keep_row(alloc, &self.cond, false, row, days, made)
+    }
+
+    ghost along = { λ op d xs ys. filter-append (λ x. not (C.holds op.cond d x)) xs ys };
 }
 
 impl<R: Glue + Drop, C: DayCond<R>> UnaryOp<R> for Restrict<C> {
@@ -43,26 +100,8 @@ impl<R: Glue + Drop, C: DayCond<R>> UnaryOp<R> for Restrict<C> {
     ghost most = { λ op n. n };
 
     fn apply(&self, alloc: Global, rel: &Rel<R>) -> Result<Rel<R>, NoMemory> {
-        sifted(alloc, &self.cond, false, rel)
+        each_row(alloc, self, rel)
     }
-}
-
-// The rows on the days on which the condition has the wanted truth.
-pub(crate) fn sifted<R: Glue + Drop, C: DayCond<R>>(
-    alloc: Global,
-    cond: &C,
-    wanted: bool,
-    rel: &Rel<R>,
-) -> Result<Rel<R>, NoMemory>
-    ensures law { IfOk result (λ r. (d : ℤ) → IsRefDay d → relation_at R.Fixed.cmp R.meaning r d
-        ≡ filter (λ x. is_wanted wanted (C.holds cond.now d x)) (relation_at R.Fixed.cmp R.meaning rel.now d)) }
-    ensures size { IfOk result (λ r. length r ≤ length rel.now) }
-{
-    let mut kept = Rel::new(alloc);
-    'rows: for i in 0..rel.len() {
-        keep_row(alloc, cond, wanted, rel.row(i), rel.days(i), &mut kept)?;
-    }
-    Ok(kept)
 }
 
 // Adds the row on those of its days on which the condition has the wanted truth.

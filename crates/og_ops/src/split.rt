@@ -4,6 +4,7 @@ ghost use Rattle.og_base.specs.Calendar.{IsRefDay};
 ghost use Rattle.og_rel.specs.Relations.{present};
 ghost use Rattle.og_ops.specs.Plain.{replaced};
 
+use crate::each_row::{EachRow, each_row};
 use crate::operator::UnaryOp;
 use crate::puts::{put_image, put_row};
 use crate::sift::wanted_days;
@@ -18,6 +19,22 @@ pub struct Split<C, M> {
     pub items: M,
 }
 
+impl<R: Glue + Drop, C: DayCond<R>, M: RowMap<R>> EachRow<R> for Split<C, M> {
+    ghost use Rattle.std.specs.Prelude.{map};
+    ghost use Rattle.std.proofs.lemmas.List.{map-append};
+    ghost use Rattle.og_ops.specs.Plain.{replaced};
+
+    ghost becomes = { λ op d xs. map (replaced (C.holds op.cond d) (M.image op.items d)) xs };
+
+    ghost most_of_one = { λ op. 2 };
+
+    fn put(&self, alloc: Global, row: &R, days: &RtSet, made: &mut Rel<R>) -> Result<(), NoMemory> {
+        split_row(alloc, self, row, days, made)
+    }
+
+    ghost along = { λ op d xs ys. map-append (replaced (C.holds op.cond d) (M.image op.items d)) xs ys };
+}
+
 impl<R: Glue + Drop, C: DayCond<R>, M: RowMap<R>> UnaryOp<R> for Split<C, M> {
     ghost use Rattle.std.specs.Prelude.{map, ◌*◌};
     ghost use Rattle.og_base.specs.Set.{set_of};
@@ -28,11 +45,7 @@ impl<R: Glue + Drop, C: DayCond<R>, M: RowMap<R>> UnaryOp<R> for Split<C, M> {
     ghost most = { λ op n. 2 * n };
 
     fn apply(&self, alloc: Global, rel: &Rel<R>) -> Result<Rel<R>, NoMemory> {
-        let mut made = Rel::new(alloc);
-        'rows: for i in 0..rel.len() {
-            split_row(alloc, self, rel.row(i), rel.days(i), &mut made)?;
-        }
-        Ok(made)
+        each_row(alloc, self, rel)
     }
 }
 

@@ -1,5 +1,6 @@
 pub mod FieldLemmas
 pub mod LayoutLemmas
+pub mod ListedLemmas
 pub mod LongestLemmas
 pub mod OrderedLemmas
 pub mod PutLemmas

@@ -29,11 +29,11 @@ records-append : (xs ys : List (List (List ℕ))) → records (xs ++ ys) ≡ rec
 unfolding records
 records-append xs ys = flat_map-append (row_text default_writer) xs ys
 
-records-none : records [] ≡ []
+pub records-none : records [] ≡ []
 unfolding records
 records-none = refl
 
-rows_text-append : (xs ys : List Fixed) → rows_text (xs ++ ys) ≡ rows_text xs ++ rows_text ys
+pub rows_text-append : (xs ys : List Fixed) → rows_text (xs ++ ys) ≡ rows_text xs ++ rows_text ys
 rows_text-append xs ys = ap records (map-append (map fixed_text) xs ys) ∙ records-append (map (map fixed_text) xs) (map (map fixed_text) ys)
 
 -- a layout is its first record and those of its rows
@@ -111,10 +111,6 @@ module _ (old mid new : Option (List ℕ)) (all rest block later : List Fixed) (
   block_refused refusal put =
       put_after old mid new (rows_text up.before) (rows_text rest) (rows_text all) (Err refusal) (ap rows_text up.whole ∙ rows_text-append up.before rest) up.written
       (put_within mid new (rows_text block) (rows_text later) (rows_text rest) refusal (ap rows_text parts ∙ rows_text-append block later) put)
-
--- where no row is left, all were put
-pub all_put : (old now : Option (List ℕ)) (all rest : List Fixed) → rest ≡ [] → ArePutUpTo old now all rest → Appends old now (rows_text all)
-all_put old now all rest none up = subst (λ rows. Appends old now (rows_text rows)) (sym (up.whole ∙ ap (λ r. up.before ++ r) none ∙ append-nil up.before)) up.written
 
 -- a list of which each has a text, put one after the other: those before this one were put
 module _ {A : Type 0} (text : A → List ℕ) (old mid new : Option (List ℕ)) (xs : List A) (i : ℕ) (x : A) (within : i < length xs) (is : x ≡ get_or xs i x)

@@ -1,4 +1,5 @@
 pub mod Calendars
 pub mod Ends
+pub mod Listed
 pub mod Puts
 pub mod Records

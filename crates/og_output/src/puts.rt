@@ -1,5 +1,5 @@
 //! Pieces of output, put into a sink.
-ghost use Rattle.std.specs.Prelude.{◌≡◌, ◌≤◌, map};
+ghost use Rattle.std.specs.Prelude.{◌≡◌, ◌≤◌, IfSome, map};
 ghost use Rattle.std.specs.List.{flat_map};
 ghost use Rattle.og_par.specs.Limits.{max_workers};
 ghost use Rattle.og_value.specs.Cells.{fixed_text};
@@ -17,7 +17,7 @@ ghost use Rattle.og_output.specs.Records.{layout, records};
 
 use crate::blocks::{BlockText, blocks_of};
 use crate::records::header_text;
-use crate::sights::sights_of;
+use crate::sights::{DayRows, rows_of_day};
 use og_base::RefDay;
 use og_faults::Fault;
 use og_io::{PutRefusal, Sink};
@@ -33,6 +33,9 @@ use std::thread::Threads;
 // block in each round.
 const ROUND: usize = 256;
 
+// How many blocks a worker has at least: the text of fewer is made sooner than a thread begins.
+const LEAST: usize = 4;
+
 /// Puts the piece, where it is not empty.
 pub fn put<K: Sink>(piece: &[u8], out: &mut K) -> Result<(), PutRefusal>
     ensures put { IsPut (K.written out.old) (K.written out.new) piece.now result }
@@ -46,7 +49,7 @@ pub fn put<K: Sink>(piece: &[u8], out: &mut K) -> Result<(), PutRefusal>
 
 /// Puts the rows of the relation on the day as a PRINT writes them: a record of the columns' names, then one of
 /// the texts of each row's values. Workers, 1 to `MAX_WORKERS` of og_par, put the rows in order and make the text block
-/// by block, some blocks in each round, so that it never stands in memory whole.
+/// by block, some blocks in each round, so that that of many rows never stands in memory whole.
 pub fn put_relation<H: Threads + Sync, K: Sink, G: Gate + Sync>(
     rt: &H,
     alloc: Global,
@@ -62,28 +65,32 @@ pub fn put_relation<H: Threads + Sync, K: Sink, G: Gate + Sync>(
     ensures put { IsPut (K.written out.old) (K.written out.new) (layout columns.now (relation_at row_order row_at rel.now day)) result }
     ensures counted { IsFaultCount (is_unput result) (K.faults out.old) (K.faults out.new) }
 {
-    let lists = sights_of(rt, alloc, workers, gate, rel, day)?;
-    put_layout(rt, alloc, workers, gate, columns, lists.as_slice(), out)
+    let rows = rows_of_day(rt, alloc, workers, gate, rel, day)?;
+    put_layout(rt, alloc, workers, gate, columns, &rows, out)
 }
 
-// Puts the record of the columns' names, and those of the rows of the lists.
+// Puts the record of the columns' names, and those of the rows of the day.
 fn put_layout<H: Threads + Sync, K: Sink, G: Gate + Sync>(
     rt: &H,
     alloc: Global,
     workers: usize,
     gate: &G,
     columns: &Schema,
-    lists: &[Vec<Sight>],
+    rows: &DayRows,
     out: &mut K,
 ) -> Result<(), PutRefusal>
     requires least { 1 ≤ workers }
     requires most { workers ≤ max_workers }
-    ensures put { IsPut (K.written out.old) (K.written out.new) (layout columns.now (rows_of lists.now)) result }
+    requires texts { IfSome rows.now.texts (λ texts. flat_map (λ text. text.items) texts.items ≡ records (map (map fixed_text) (rows_of rows.now.lists.items))) }
+    ensures put { IsPut (K.written out.old) (K.written out.new) (layout columns.now (rows_of rows.now.lists.items)) result }
     ensures counted { IsFaultCount (is_unput result) (K.faults out.old) (K.faults out.new) }
 {
     let header = header_text(alloc, columns)?;
     put(header.as_slice(), out)?;
-    let blocks = blocks_of(alloc, lists)?;
+    if let Some(texts) = &rows.texts {
+        return put_texts(texts.as_slice(), out);
+    }
+    let blocks = blocks_of(alloc, rows.lists.as_slice())?;
     put_blocks(rt, alloc, workers, gate, blocks.as_slice(), out)
 }
 
@@ -125,7 +132,8 @@ fn put_round<H: Threads + Sync, K: Sink, G: Gate + Sync>(
     ensures put { IsPut (K.written out.old) (K.written out.new) (records (map (map fixed_text) (flat_map (λ b. b.now) blocks.now))) result }
     ensures counted { IsFaultCount (is_unput result) (K.faults out.old) (K.faults out.new) }
 {
-    let texts = par_rows(rt, alloc, workers, blocks, &BlockText, gate)?;
+    let busy = (blocks.len() / LEAST).clamp(1, workers);
+    let texts = par_rows(rt, alloc, busy, blocks, &BlockText, gate)?;
     put_texts(texts.as_slice(), out)
 }
 

@@ -1,8 +1,8 @@
 -- Rows that pass tests: that no day changes it, what a relation has of them on a day, what some keys more make of it, and what bounds of keys tell.
-use Rattle.std.proofs.Common.{◌≡◌, ◌≢◌, ◌++◌, ◌+◌, ◌&&◌, Contains, ℕ, ℤ, zero, suc, pos, Bool, true, false, true≢false, not, List, [], ◌∷◌, length, filter, get_or, slice_get, slice_index_or, take, ◌<◌, Option, Some, None, Ordering, Less, Equal, Greater, ◌≤◌, ◌||◌, refl, sym, ap, ap₂, ◌∙◌, arith}
+use Rattle.std.proofs.Common.{◌≡◌, ◌≢◌, ◌++◌, ◌+◌, ◌&&◌, Contains, ℕ, ℤ, zero, suc, pos, Bool, true, false, true≢false, not, List, [], ◌∷◌, length, filter, slice_get, slice_index_or, take, ◌<◌, Option, Some, None, Ordering, Less, Equal, Greater, ◌||◌, refl, sym, ap, ap₂, ◌∙◌, arith}
 use Rattle.std.specs.List.{All, list_all, list_any}
 use Rattle.std.proofs.lemmas.List.{length-take-le, take_more}
-use Rattle.std.proofs.lemmas.List.Elements.{All-cons, All-contains, All-get_or, All-nil, filter-append}
+use Rattle.std.proofs.lemmas.List.Elements.{All-cons, All-contains, All-nil, filter-append}
 use Rattle.std.specs.BTreeSet.{insert_key}
 use Rattle.std.specs.Ordering.{eq_by_cmp, int_cmp, match_ordering, nat_cmp}
 use Rattle.std.specs.Cmp.Lexicographic.{slice_cmp}
@@ -17,9 +17,9 @@ use Rattle.og_value.specs.declared.value.FixedValue.{FixedValue}
 use Rattle.og_value.specs.declared.value.FixedValue.TheVariants as f
 use Rattle.og_value.specs.declared.value.Value.{Value}
 use Rattle.og_value.specs.declared.value.Value.TheVariants.{Int, Text, Point, Period}
-use Rattle.og_rel.specs.Relations.{HasDays, instead, others, present, stored}
+use Rattle.og_rel.specs.Relations.{instead, others, present, stored}
 use Rattle.og_rel.proofs.AlgebraLemmas.{filter-both, same_set_by_tests}
-use Rattle.og_rel.proofs.PresentLemmas.{at_place, list_any-present}
+use Rattle.og_rel.proofs.PresentLemmas.{list_any-present}
 use Rattle.og_query.specs.Expressions.{no_value}
 use Rattle.og_query.specs.Queries.{Fixed}
 use Rattle.og_query.proofs.QueryLemmas.{rows_ordered}
@@ -132,17 +132,6 @@ pub passes-more : (start : ℕ) (columns : List Keys) (i : ℕ) (keys : Keys) (r
 passes-more start columns i keys row within is passing =
     let both = sym (ap (λ tests. passes tests row) (tests_from-more start columns i keys within is) ∙ passes-push (tests_from start (take i columns)) (start + i, keys) row) ∙ passing in
     (first_of (passes (tests_from start (take i columns)) row) _ both, first_of (meets row (start + i, keys)) true (second_of (passes (tests_from start (take i columns)) row) _ both))
-
--- of the first rows and one more those that pass
-pub sifted-more : (tests : List Test) (rel : Relation) (i : ℕ) (row : List Value) (days : List Range) → i < length rel
-    → ((p : List Value × List Range) → row ≡ (get_or rel i p).0) → ((p : List Value × List Range) → days ≡ (get_or rel i p).1) → All (λ p. HasDays p.1) rel
-    → sifted tests (take i rel) ++ sifted tests (stored row days) ≡ sifted tests (take (i + 1) rel)
-sifted-more tests rel i row days within row_is days_is has =
-    let p : List Value × List Range = (row, days) in
-    let some : days ≢ [] = λ none. (All-get_or (λ p. HasDays p.1) rel i p within has).0 (sym (days_is p) ∙ none) in
-    ap (λ more. sifted tests (take i rel) ++ sifted tests more) (stored-some row days some)
-    ∙ sym (filter-append (λ p. row_passes tests p.0) (take i rel) (p ∷ []))
-    ∙ ap (sifted tests) (sym (take_more rel i p within ∙ ap (λ q. take i rel ++ q ∷ []) (sym (at_place rel i row days row_is days_is))))
 
 -- what passes tests passes one of them
 pub passes-one : (tests : List Test) (row : Fixed) (test : Test) → Contains tests test → passes tests row ≡ true → meets row test ≡ true

@@ -9,13 +9,13 @@ use Rattle.og_exec.proofs.AnswerLemmas.{of_made}
 use Rattle.og_exec.proofs.nodes.filtered.Goals as goal
 
 pub returns-clause-law : goal.returns-clause-law
-returns-clause-law c =
+returns-clause-law g c =
     of_made (λ rel. (d : ℤ) → IsRefDay d → rows_on rel d ≡ filter (all_hold d c.args.parts.now) (rows_on (rel_of c.args.input) d)) _ _ c.made.ensures
-    (subst (λ input. IfOk c.apply.result (λ r. (d : ℤ) → IsRefDay d → rows_on r d ≡ filter (all_hold d c.args.parts.now) (rows_on input d))) c.rel.ensures
-    (subst (λ order. IfOk c.apply.result (λ r. (d : ℤ) → IsRefDay d → relation_at order row_at r d ≡ filter (all_hold d c.args.parts.now) (relation_at order row_at c.rel.result.now d)))
-    (λ i x y. c.order_of_rows.ensures.order x y i) c.apply.ensures.law))
+    (subst (λ input. IfOk c.apply_by_workers.result (λ r. (d : ℤ) → IsRefDay d → rows_on r d ≡ filter (all_hold d c.args.parts.now) (rows_on input d))) c.rel.ensures
+    (subst (λ order. IfOk c.apply_by_workers.result (λ r. (d : ℤ) → IsRefDay d → relation_at order row_at r d ≡ filter (all_hold d c.args.parts.now) (relation_at order row_at c.rel.result.now d)))
+    (λ i x y. c.order_of_rows.ensures.order x y i) c.apply_by_workers.ensures.law))
 
 pub returns-clause-size : goal.returns-clause-size
-returns-clause-size c =
+returns-clause-size g c =
     of_made (λ rel. length rel ≤ length (rel_of c.args.input)) _ _ c.made.ensures
-    (subst (λ input. IfOk c.apply.result (λ r. length r ≤ length input)) c.rel.ensures c.apply.ensures.size)
+    (subst (λ input. IfOk c.apply_by_workers.result (λ r. length r ≤ length input)) c.rel.ensures c.apply_by_workers.ensures.size)

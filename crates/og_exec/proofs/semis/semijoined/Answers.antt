@@ -17,10 +17,10 @@ wanted_is false b = refl
 pub returns-clause-law : goal.returns-clause-law
 returns-clause-law g c =
     let semi = c.args.semi.now in
-    IfOk-weaker c.apply.result _ _
+    IfOk-weaker c.apply_by_workers.result _ _
     (λ r law d day. law d day
     ∙ (λ i. filter (λ x. wanted_is semi.positive (list_any (λ y. all_hold d semi.parts (x ++ y)) ((ap (λ rel. rows_on rel d) c.rel.ensures ∙ c.lent-table.ensures.law d) i)) i) (rows_on c.args.input.now d)))
-    (subst (λ order. IfOk c.apply.result (λ r. (d : ℤ) → IsRefDay d
+    (subst (λ order. IfOk c.apply_by_workers.result (λ r. (d : ℤ) → IsRefDay d
     → relation_at order row_at r d
     ≡ filter (λ x. is_wanted semi.positive (list_any (λ y. all_hold d semi.parts (x ++ y)) (relation_at order row_at c.rel.result.now d))) (relation_at order row_at c.args.input.now d)))
-    (λ i x y. c.order_of_rows.ensures.order x y i) c.apply.ensures.law)
+    (λ i x y. c.order_of_rows.ensures.order x y i) c.apply_by_workers.ensures.law)

@@ -1,25 +1,10 @@
-use Rattle.std.proofs.Common.{map, ap, ◌∙◌, rules, arith}
-use Rattle.std.proofs.lemmas.List.{map-append}
-use Rattle.og_base.specs.Set.{IsExactOrder, set_of}
-use Rattle.og_rel.specs.Relations.{present}
-use Rattle.og_rel.proofs.PresentLemmas.{made_more}
+use Rattle.std.proofs.lemmas.Result.{IfOk-weaker}
+use Rattle.og_base.specs.Set.{IsExactOrder}
 use Rattle.og_ops.specs.Plain.{replaced}
-use Rattle.og_ops.proofs.RowLemmas.{made_all, set_of-map}
+use Rattle.og_ops.proofs.EachLemmas.{images_at}
 use Rattle.og_ops.proofs.split.SplitUnaryOp.apply.Goals as goal
 
-pub rows-preserved : goal.rows-preserved
-rows-preserved g c = record {
-  rows = λ d r.
-      let f = replaced (g.C.DayCond.holds c.args.self.now.cond d) (g.M.RowMap.image c.args.self.now.items d) in
-      made_more g.R.Instant.meaning (map f) (map-append f) c.args.rel.now c.rows.i _ _ c.rows.made c.split_row.new.made d (search rules)
-      c.row.ensures c.days.ensures (c.rows.invariant.rows d r) (c.in_ok-split_row.ensures.rows d r);
-  size = omega (arith, c.rows.invariant.size, c.in_ok-split_row.ensures.size);
-}
-
 pub returns-clause-law : goal.returns-clause-law
-returns-clause-law g c d r =
-    let at = g.R.Instant.meaning in
-    let f = replaced (g.C.DayCond.holds c.args.self.now.cond d) (g.M.RowMap.image c.args.self.now.items d) in
+returns-clause-law g c =
     let o : IsExactOrder g.R.Fixed.Ord.cmp = record { total = g.met.R.Fixed.Ord.total; exact = g.met.R.Instant.exact } in
-    ap (set_of g.R.Fixed.Ord.cmp) (made_all at (map f) c.args.rel.now c.rows.made _ d (search rules) (c.rows.invariant.rows d r))
-    ∙ set_of-map o f (present at c.args.rel.now d)
+    IfOk-weaker c.each_row.result _ _ (λ r h d day. images_at o g.R.Instant.meaning (replaced (g.C.DayCond.holds c.args.self.now.cond d) (g.M.RowMap.image c.args.self.now.items d)) c.args.rel.now r d (h d day)) c.each_row.ensures.law

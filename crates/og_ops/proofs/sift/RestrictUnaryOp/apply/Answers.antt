@@ -1,0 +1,10 @@
+use Rattle.std.proofs.lemmas.Result.{IfOk-weaker}
+use Rattle.og_base.specs.Set.{IsExactOrder}
+use Rattle.std.proofs.Common.{not}
+use Rattle.og_ops.proofs.EachLemmas.{passing_at}
+use Rattle.og_ops.proofs.sift.RestrictUnaryOp.apply.Goals as goal
+
+pub returns-clause-law : goal.returns-clause-law
+returns-clause-law g c =
+    let o : IsExactOrder g.R.Fixed.Ord.cmp = record { total = g.met.R.Fixed.Ord.total; exact = g.met.R.Instant.exact } in
+    IfOk-weaker c.each_row.result _ _ (λ r h d day. passing_at o g.R.Instant.meaning (λ x. not (g.C.DayCond.holds c.args.self.now.cond d x)) c.args.rel.now r d (h d day)) c.each_row.ensures.law
