@@ -22,7 +22,7 @@ ghost use Rattle.og_db.specs.Runs.{AreWithin, is_stored, sizes_at, stored};
 ghost use Rattle.og_db.specs.Statements.{named_rows, named_sizes, names_after, name_sizes_after};
 ghost use Rattle.og_db.specs.Database.{Relation, HaveKinds, IsTableOf, IsLiveOf, AreKept, names_at};
 
-use crate::changes::{changed_of, left_of};
+use crate::changes::{changed_of_passing, left_of_passing};
 use crate::holding::Holding;
 use crate::insertion::on_all_days;
 use crate::sought::Sought;
@@ -177,11 +177,20 @@ impl Db {
             rows ≡ passing (λ row. may_hold row test.now) rel) }
         ensures fits { IfOk result (λ rows. (columns : List Column) → IsTableOf columns self.now name.now → HaveKinds columns rows) }
     {
+        self.table(name).passing(test)
+    }
+
+    // The rows of a table.
+    fn table(&self, name: &Name) -> &Rel<Row>
+        requires table { (columns : List Column) × IsTableOf columns self.now name.now }
+        ensures rows { (rel : Relation) → rows_of self.now name.now ≡ Some rel → result.now ≡ rel }
+        ensures fits { (columns : List Column) → IsTableOf columns self.now name.now → HaveKinds columns result.now }
+    {
         self.rows_fit();
         let Some(rel) = self.rel(name.bytes()) else {
             unreachable!();
         };
-        rel.passing(test)
+        rel
     }
 
     /// Puts `more` in the place of the rows of a table that pass the test. Refused only for want of memory, and
@@ -257,8 +266,7 @@ impl Db {
         self.rows_fit();
         let alloc = *self.names.allocator();
         let test = Touched::new(alloc, cond);
-        let rows = self.touched(name, &test)?;
-        let left = left_of(alloc, &rows, cond)?;
+        let left = left_of_passing(alloc, self.table(name), &test, cond)?;
         self.replace(name, &test, left)
     }
 
@@ -278,8 +286,7 @@ impl Db {
         self.rows_fit();
         let alloc = *self.names.allocator();
         let test = Touched::new(alloc, cond);
-        let rows = self.touched(name, &test)?;
-        let changed = changed_of(alloc, &rows, sets, cond)?;
+        let changed = changed_of_passing(alloc, self.table(name), &test, sets, cond)?;
         self.replace(name, &test, changed)
     }
 

@@ -4,9 +4,9 @@
 //! whose rows fit them. `create`, `insert`, `delete`, `update`, `keep` and `drop_name` make of it,
 //! where names and kinds fit, on every day what the ordinary statement makes of the rows of that day,
 //! with no more rows than its size (specs/Statements.antt); where they are refused nothing has
-//! changed. `delete` and `update` copy of a table only the rows that their condition may touch (`Touched`, a
-//! test of single rows that takes no memory); what is left of these, or what assignments make of them, then
-//! stands in their place behind the other rows. `touched`, `left_of`, `gone_of`, `changed_of`, `assigned_of`,
+//! changed. `delete` and `update` make of a table anew only the rows that their condition may touch (`Touched`, a
+//! test of single rows that takes no memory), and copy none before; what is left of these, or what assignments
+//! make of them, then stands in their place behind the other rows. `touched`, `left_of`, `gone_of`, `changed_of`, `assigned_of`,
 //! `replace` and `replace_with` are the steps alone, for one that changes another relation with the table, and
 //! `put` puts a whole relation in its place without memory. `keep` is given its rows: `Db` asks no
 //! query. So a live result has a name here and no rows:

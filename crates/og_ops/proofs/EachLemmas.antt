@@ -1,8 +1,9 @@
 -- Rows that each become others by itself: of pairs, of blocks of pairs, and of a relation at a day.
-use Rattle.std.proofs.Common.{◌≡◌, ◌++◌, ◌+◌, ◌*◌, ◌<◌, ◌≤◌, ℕ, ℤ, List, [], ◌∷◌, length, get_or, map, filter, take, Ordering, refl, Bool, sym, subst₂, ap, ap₂, ◌∙◌, arith}
+use Rattle.std.proofs.Common.{◌≡◌, ◌++◌, ◌+◌, ◌*◌, ◌<◌, ◌≤◌, ℕ, ℤ, false, cond, List, [], ◌∷◌, length, get_or, map, filter, take, Ordering, refl, Bool, sym, subst₂, ap, ap₂, ◌∙◌, arith}
 use Rattle.std.specs.List.{flat_map}
-use Rattle.std.proofs.lemmas.List.{length-append}
+use Rattle.std.proofs.lemmas.List.{append-nil, length-append, map-append, take_more}
 use Rattle.std.proofs.lemmas.List.Concat.{flat_map-cons}
+use Rattle.std.proofs.lemmas.List.Elements.{filter-append}
 use Rattle.og_base.specs.Ranges.{Range}
 use Rattle.og_base.specs.Set.{IsExactOrder, set_of}
 use Rattle.og_base.proofs.SetLemmas.{filter-set_of}
@@ -10,11 +11,19 @@ use denote.Ref.{Bor}
 use Rattle.og_par.specs.Phase.{MadeOfEach}
 use Rattle.og_rel.specs.declared.pair.Pair.{Pair}
 use Rattle.og_rel.specs.Pairs.{present_of_pairs}
-use Rattle.og_rel.specs.Relations.{present, relation_at}
+use Rattle.og_rel.specs.Relations.{passing, present, relation_at}
 use Rattle.og_rel.proofs.PairLemmas.{present_of_pairs-append, present_of_pairs-more}
 use Rattle.og_rel.proofs.PresentLemmas.{present-append}
 use Rattle.og_ops.specs.Each.{Becomes, IsMadeOf}
 use Rattle.og_ops.proofs.RowLemmas.{set_of-map}
+
+-- the rows that pass of the first pairs and one more
+passing_parts : {R : Type 0} (passes : R → Bool) (pairs : List (Pair R)) (i : ℕ) (p : Pair R) → i < length pairs → p ≡ get_or pairs i p
+    → passing passes (map (λ q. (q.row, q.days)) (take (i + 1) pairs)) ≡ passing passes (map (λ q. (q.row, q.days)) (take i pairs)) ++ passing passes ((p.row, p.days) ∷ [])
+passing_parts passes pairs i p l e =
+    ap (λ q. passing passes (map (λ r. (r.row, r.days)) q)) (take_more pairs i p l ∙ ap (λ q. take i pairs ++ q ∷ []) (sym e))
+    ∙ ap (passing passes) (map-append (λ q. (q.row, q.days)) (take i pairs) (p ∷ []))
+    ∙ filter-append (λ q. passes q.0) (map (λ q. (q.row, q.days)) (take i pairs)) ((p.row, p.days) ∷ [])
 
 module _ {F : Type 0} (f : List F → List F) (along : (xs ys : List F) → f (xs ++ ys) ≡ f xs ++ f ys) where
   -- no row becomes none
@@ -32,6 +41,36 @@ module _ {F : Type 0} (f : List F → List F) (along : (xs ys : List F) → f (x
   become_more at pairs i p old new d l e before step =
       step ∙ ap (λ rows. rows ++ f (present_of_pairs at (p ∷ []) d)) before ∙ sym (along (present_of_pairs at (take i pairs) d) (present_of_pairs at (p ∷ []) d))
       ∙ ap f (sym (present_of_pairs-more at d pairs i p l e))
+
+  -- those of them that pass a test
+  pub passing_more : {R : Type 0} (at : R → ℤ → F) (passes : R → Bool) (pairs : List (Pair R)) (i : ℕ) (p : Pair R) (old new : List (R × List Range)) (d : ℤ) → i < length pairs → p ≡ get_or pairs i p
+      → present at old d ≡ f (present at (passing passes (map (λ q. (q.row, q.days)) (take i pairs))) d)
+      → present at new d ≡ present at old d ++ f (present at (passing passes ((p.row, p.days) ∷ [])) d)
+      → present at new d ≡ f (present at (passing passes (map (λ q. (q.row, q.days)) (take (i + 1) pairs))) d)
+  passing_more at passes pairs i p old new d l e before step =
+      let first = passing passes (map (λ q. (q.row, q.days)) (take i pairs)) in
+      let one = passing passes ((p.row, p.days) ∷ []) in
+      step ∙ ap (λ rows. rows ++ f (present at one d)) before ∙ sym (along (present at first d) (present at one d))
+      ∙ ap f (sym (ap (λ rel. present at rel d) (passing_parts passes pairs i p l e) ∙ present-append at first one d))
+
+  -- a row that does not pass adds nothing
+  pub unpassed : {R : Type 0} (at : R → ℤ → F) (passes : R → Bool) (row : R) (days : List Range) (rows : List F) (d : ℤ) → passes row ≡ false → rows ≡ rows ++ f (present at (passing passes ((row, days) ∷ [])) d)
+  unpassed at passes row days rows d e =
+      sym (ap (λ more. rows ++ f (present at more d)) none ∙ ap (λ more. rows ++ more) nothing_becomes ∙ append-nil rows)
+    where
+      none : passing passes ((row, days) ∷ []) ≡ []
+      none = ap (λ b. cond b ((row, days) ∷ []) []) e
+
+-- one row more for each pair that passes
+pub passing_size : {R : Type 0} (passes : R → Bool) (pairs : List (Pair R)) (i : ℕ) (p : Pair R) (a b n : ℕ) → i < length pairs → p ≡ get_or pairs i p
+    → a ≤ n * length (passing passes (map (λ q. (q.row, q.days)) (take i pairs))) → b ≤ a + n * length (passing passes ((p.row, p.days) ∷ []))
+    → b ≤ n * length (passing passes (map (λ q. (q.row, q.days)) (take (i + 1) pairs)))
+passing_size passes pairs i p a b n l e h k =
+    both (length (passing passes (map (λ q. (q.row, q.days)) (take i pairs)))) (length (passing passes ((p.row, p.days) ∷ []))) _
+    (ap length (passing_parts passes pairs i p l e) ∙ length-append (passing passes (map (λ q. (q.row, q.days)) (take i pairs))) (passing passes ((p.row, p.days) ∷ []))) h k
+  where
+    both : (x y all : ℕ) → all ≡ x + y → a ≤ n * x → b ≤ a + n * y → b ≤ n * all
+    both x y all e h k = grind (arith, e, h, k)
 
 -- one row more for each pair
 pub most_more : (a b i n : ℕ) → a ≤ n * i → b ≤ a + n → b ≤ n * (i + 1)

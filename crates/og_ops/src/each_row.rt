@@ -4,11 +4,11 @@ ghost use Rattle.std.specs.List.{flat_map};
 ghost use Rattle.og_base.specs.Calendar.{IsRefDay};
 ghost use Rattle.og_par.specs.Limits.{max_workers};
 ghost use Rattle.og_rel.specs.Pairs.{present_of_pairs};
-ghost use Rattle.og_rel.specs.Relations.{present};
+ghost use Rattle.og_rel.specs.Relations.{passing, present};
 
 use og_base::{Glue, NoMemory, RtSet};
 use og_par::{Gate, Piece, par_rows};
-use og_rel::{Pair, Rel, blocks_of};
+use og_rel::{Pair, Rel, RowTest, blocks_of};
 use std::alloc::Global;
 use std::thread::Threads;
 
@@ -43,6 +43,42 @@ pub(crate) fn each_row<R: Glue + Drop, O: EachRow<R>>(
     ensures size { IfOk result (λ r. length r ≤ O.most_of_one op.now * length rel.now) }
 {
     each_pair(alloc, op, rel.pairs())
+}
+
+// What those of the rows become that pass the test.
+pub(crate) fn each_passing<R: Glue + Drop, O: EachRow<R>, T: RowTest<R>>(
+    alloc: Global,
+    op: &O,
+    rel: &Rel<R>,
+    test: &T,
+) -> Result<Rel<R>, NoMemory>
+    ensures law { IfOk result (λ r. (d : ℤ) → IsRefDay d → present R.meaning r d ≡ O.becomes op.now d (present R.meaning (passing (T.passes test.now) rel.now) d)) }
+    ensures size { IfOk result (λ r. length r ≤ O.most_of_one op.now * length (passing (T.passes test.now) rel.now)) }
+{
+    let pairs = rel.pairs();
+    let mut made = Rel::new(alloc);
+    'pairs: for pair in pairs {
+        put_passing(alloc, op, pair, test, &mut made)?;
+    }
+    Ok(made)
+}
+
+// Adds what the row of the pair becomes, where it passes the test.
+fn put_passing<R: Glue + Drop, O: EachRow<R>, T: RowTest<R>>(
+    alloc: Global,
+    op: &O,
+    pair: &Pair<R>,
+    test: &T,
+    made: &mut Rel<R>,
+) -> Result<(), NoMemory>
+    ensures rows { OnOk result ((d : ℤ) → IsRefDay d → present R.meaning made.new d
+        ≡ present R.meaning made.old d ++ O.becomes op.now d (present R.meaning (passing (T.passes test.now) ((pair.now.row, pair.now.days) ∷ [])) d)) }
+    ensures size { OnOk result (length made.new ≤ length made.old + O.most_of_one op.now * length (passing (T.passes test.now) ((pair.now.row, pair.now.days) ∷ []))) }
+{
+    if !test.test(&pair.row) {
+        return Ok(());
+    }
+    op.put(alloc, &pair.row, &pair.days, made)
 }
 
 // What the rows of the relation become, by the workers: each makes it of a block of rows.

@@ -1,10 +1,10 @@
 //! Operators.
 ghost use Rattle.std.specs.Prelude.{◌≡◌, ◌≤◌, ℕ, ℤ, List, IfOk, length};
 ghost use Rattle.og_base.specs.Calendar.{IsRefDay};
-ghost use Rattle.og_rel.specs.Relations.{relation_at};
+ghost use Rattle.og_rel.specs.Relations.{passing, relation_at};
 
 use og_base::{Glue, NoMemory};
-use og_rel::Rel;
+use og_rel::{Rel, RowTest};
 use std::alloc::Global;
 
 /// An operator on a relation.
@@ -21,6 +21,18 @@ pub trait UnaryOp<R: Glue> {
         ensures law { IfOk result (λ r. (d : ℤ) → IsRefDay d →
             relation_at R.Fixed.cmp R.meaning r d ≡ plain self.now d (relation_at R.Fixed.cmp R.meaning rel.now d)) }
         ensures size { IfOk result (λ r. length r ≤ most self.now (length rel.now)) };
+
+    /// What `apply` gives of the rows alone that pass the test, of which none is copied before. Refused only for
+    /// want of memory.
+    fn apply_passing<T: RowTest<R>>(
+        &self,
+        alloc: Global,
+        rel: &Rel<R>,
+        test: &T,
+    ) -> Result<Rel<R>, NoMemory>
+        ensures law { IfOk result (λ r. (d : ℤ) → IsRefDay d →
+            relation_at R.Fixed.cmp R.meaning r d ≡ plain self.now d (relation_at R.Fixed.cmp R.meaning (passing (T.passes test.now) rel.now) d)) }
+        ensures size { IfOk result (λ r. length r ≤ most self.now (length (passing (T.passes test.now) rel.now))) };
 }
 
 /// An operator on two relations.

@@ -5,12 +5,12 @@ ghost use Rattle.og_base.specs.Set.{set_of};
 ghost use Rattle.og_par.specs.Limits.{max_workers};
 ghost use Rattle.og_rel.specs.Relations.{relation_at};
 
-use crate::each_row::{EachRow, each_row, each_row_by_workers};
+use crate::each_row::{EachRow, each_passing, each_row, each_row_by_workers};
 use crate::operator::UnaryOp;
 use crate::puts::put_image;
 use og_base::{Glue, NoMemory, RowMap, RtSet};
 use og_par::Gate;
-use og_rel::Rel;
+use og_rel::{Rel, RowTest};
 use std::alloc::Global;
 use std::thread::Threads;
 
@@ -45,6 +45,15 @@ impl<R: Glue + Drop, M: RowMap<R>> UnaryOp<R> for Project<M> {
 
     fn apply(&self, alloc: Global, rel: &Rel<R>) -> Result<Rel<R>, NoMemory> {
         each_row(alloc, self, rel)
+    }
+
+    fn apply_passing<T: RowTest<R>>(
+        &self,
+        alloc: Global,
+        rel: &Rel<R>,
+        test: &T,
+    ) -> Result<Rel<R>, NoMemory> {
+        each_passing(alloc, self, rel, test)
     }
 }
 

@@ -6,12 +6,12 @@ ghost use Rattle.og_par.specs.Limits.{max_workers};
 ghost use Rattle.og_rel.specs.Relations.{present, relation_at};
 ghost use Rattle.og_ops.specs.Wanted.{is_wanted};
 
-use crate::each_row::{EachRow, each_row, each_row_by_workers};
+use crate::each_row::{EachRow, each_passing, each_row, each_row_by_workers};
 use crate::operator::UnaryOp;
 use crate::puts::put_row;
 use og_base::{DayCond, Glue, NoMemory, RtSet};
 use og_par::Gate;
-use og_rel::Rel;
+use og_rel::{Rel, RowTest};
 use std::alloc::Global;
 use std::thread::Threads;
 
@@ -45,6 +45,15 @@ impl<R: Glue + Drop, C: DayCond<R>> UnaryOp<R> for Select<C> {
 
     fn apply(&self, alloc: Global, rel: &Rel<R>) -> Result<Rel<R>, NoMemory> {
         each_row(alloc, self, rel)
+    }
+
+    fn apply_passing<T: RowTest<R>>(
+        &self,
+        alloc: Global,
+        rel: &Rel<R>,
+        test: &T,
+    ) -> Result<Rel<R>, NoMemory> {
+        each_passing(alloc, self, rel, test)
     }
 }
 
@@ -101,6 +110,15 @@ impl<R: Glue + Drop, C: DayCond<R>> UnaryOp<R> for Restrict<C> {
 
     fn apply(&self, alloc: Global, rel: &Rel<R>) -> Result<Rel<R>, NoMemory> {
         each_row(alloc, self, rel)
+    }
+
+    fn apply_passing<T: RowTest<R>>(
+        &self,
+        alloc: Global,
+        rel: &Rel<R>,
+        test: &T,
+    ) -> Result<Rel<R>, NoMemory> {
+        each_passing(alloc, self, rel, test)
     }
 }
 

@@ -4,12 +4,12 @@ ghost use Rattle.og_base.specs.Calendar.{IsRefDay};
 ghost use Rattle.og_rel.specs.Relations.{present};
 ghost use Rattle.og_ops.specs.Plain.{replaced};
 
-use crate::each_row::{EachRow, each_row};
+use crate::each_row::{EachRow, each_passing, each_row};
 use crate::operator::UnaryOp;
 use crate::puts::{put_image, put_row};
 use crate::sift::wanted_days;
 use og_base::{DayCond, Glue, NoMemory, RowMap, RtSet};
-use og_rel::Rel;
+use og_rel::{Rel, RowTest};
 use std::alloc::Global;
 
 /// The image of each row of which a condition holds, and each other row as it is.
@@ -46,6 +46,15 @@ impl<R: Glue + Drop, C: DayCond<R>, M: RowMap<R>> UnaryOp<R> for Split<C, M> {
 
     fn apply(&self, alloc: Global, rel: &Rel<R>) -> Result<Rel<R>, NoMemory> {
         each_row(alloc, self, rel)
+    }
+
+    fn apply_passing<T: RowTest<R>>(
+        &self,
+        alloc: Global,
+        rel: &Rel<R>,
+        test: &T,
+    ) -> Result<Rel<R>, NoMemory> {
+        each_passing(alloc, self, rel, test)
     }
 }
 

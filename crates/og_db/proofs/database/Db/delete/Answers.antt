@@ -1,6 +1,6 @@
 use Rattle.std.proofs.Common.{◌∙◌, ap, sym, subst}
 use Rattle.std.proofs.lemmas.Result.{on_ok_weaker}
-use Rattle.og_rel.specs.Relations.{instead}
+use Rattle.og_rel.specs.Relations.{instead, passing}
 use Rattle.og_query.specs.Fits.{columns_of}
 use Rattle.og_query.specs.declared.typed.Typed.TheVariants as t
 use Rattle.og_expr.specs.Bounds.{may_hold}
@@ -15,7 +15,7 @@ use Rattle.og_db.proofs.database.Db.delete.Goals as goal
 pub replace-requires : goal.replace-requires
 replace-requires c =
     let t = c.requires.table in
-    record { table = (t.0, t.1, c.in_ok-left.ensures.kinds t.0 (c.in_ok-rows.ensures.fits t.0 t.1)) }
+    record { table = (t.0, t.1, c.in_ok-left.ensures.kinds t.0 (c.table.ensures.fits t.0 t.1)) }
 
 pub returns-clause-law : goal.returns-clause-law
 returns-clause-law c =
@@ -23,7 +23,7 @@ returns-clause-law c =
     on_ok_weaker c.replace.result (λ e d day.
     ap (names_at d) e
     ∙ left_names (λ row. may_hold row c.new-test.result) c.args.cond.now (λ row out. c.bounds_hold.ensures row c.args.cond.now (ap (may_hold row) (sym c.new-test.ensures) ∙ out))
-    c.args.self.now c.args.name.now h.0 c.in_ok-rows.rows h.1 c.names_differ.ensures (c.in_ok-rows.ensures.rows h.0 h.1) c.in_ok-left.left c.in_ok-left.ensures.law d day)
+    c.args.self.now c.args.name.now h.0 (passing (λ row. may_hold row c.new-test.result) c.table.result.now) h.1 c.names_differ.ensures (ap (passing (λ row. may_hold row c.new-test.result)) (c.table.ensures.rows h.0 h.1)) c.in_ok-left.left c.in_ok-left.ensures.law d day)
     c.replace.ensures.replaced
 
 pub returns-clause-known : goal.returns-clause-known
@@ -44,5 +44,5 @@ returns-clause-size c =
     on_ok_weaker c.replace.result (λ e.
     subst (λ db. AreWithin (sizes_at db) (name_sizes_after (sizes_at c.args.self.now) (t.Delete c.args.name.now c.args.cond.now))) (sym e)
     (left_sizes (λ row. may_hold row c.new-test.result) c.args.cond.now (λ row out. c.bounds_hold.ensures row c.args.cond.now (ap (may_hold row) (sym c.new-test.ensures) ∙ out))
-    c.args.self.now c.args.name.now h.0 c.in_ok-rows.rows h.1 c.names_differ.ensures (c.in_ok-rows.ensures.rows h.0 h.1) c.in_ok-left.left c.in_ok-left.ensures.size))
+    c.args.self.now c.args.name.now h.0 (passing (λ row. may_hold row c.new-test.result) c.table.result.now) h.1 c.names_differ.ensures (ap (passing (λ row. may_hold row c.new-test.result)) (c.table.ensures.rows h.0 h.1)) c.in_ok-left.left c.in_ok-left.ensures.size))
     c.replace.ensures.replaced
