@@ -12,6 +12,11 @@ module _ {T X : Type 0} (gives : T → List X → Type 0) where
   MadeOfEach-append (x ∷ xs) ys a b h k =
       (h.0, h.1 ++ b, h.2, MadeOfEach-append xs ys h.1 b h.3 k, ap (λ l. l ++ b) h.4 ∙ append_assoc h.0 h.1 b)
 
+  -- of a list of items that was cut, where what is made of its parts is joined
+  pub MadeOfEach-joined : (xs ys all : List T) (a b joined : List X) → all ≡ xs ++ ys → joined ≡ a ++ b → MadeOfEach gives xs a → MadeOfEach gives ys b → MadeOfEach gives all joined
+  MadeOfEach-joined xs ys all a b joined cut e h k =
+      subst (MadeOfEach gives all) (sym e) (subst (λ l. MadeOfEach gives l (a ++ b)) (sym cut) (MadeOfEach-append xs ys a b h k))
+
   -- of one item
   pub MadeOfEach-one : (x : T) (a : List X) → gives x a → MadeOfEach gives (x ∷ []) a
   MadeOfEach-one x a h = (a, [], h, refl, sym (append-nil a))

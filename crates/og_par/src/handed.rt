@@ -4,24 +4,38 @@ ghost use Rattle.std.specs.Fork.{AcceptsJobs};
 ghost use Rattle.og_par.specs.Phase.{MadeOfEach};
 ghost use Rattle.og_par.specs.Handed.{MakesOf};
 
-use crate::phase::joined;
+use crate::phase::followed;
 use og_base::NoMemory;
 use std::alloc::Global;
 use std::thread;
 use std::thread::Threads;
 
 /// What the call makes of each item, these lists one after the other, in the order of the items. Each item
-/// is handed to a worker of its own, of which no gate is told, so there are to be as many items as
-/// workers. Refused only for want of memory.
+/// but the first is handed to a thread of its own, so there are to be as many items as workers; no gate is
+/// told. Refused only for want of memory.
 pub fn par_handed<
     H: Threads + Sync,
     T: Send + Drop,
     X: Send + Drop,
     F: Fn(T) -> Result<Vec<X>, NoMemory> + Sync,
->(rt: &H, alloc: Global, items: Vec<T>, make: &F) -> Result<Vec<X>, NoMemory>
+>(rt: &H, alloc: Global, mut items: Vec<T>, make: &F) -> Result<Vec<X>, NoMemory>
     requires { AcceptsJobs F.Fn make.now items.items }
     ensures { IfOk result (λ v. MadeOfEach (MakesOf F.Fn make.now) items.items v.items) }
 {
-    let parts = thread::map_vec(rt, items, make)?;
-    joined(alloc, parts)
+    let Some(last) = items.pop() else {
+        return Ok(Vec::new(alloc));
+    };
+    if items.is_empty() {
+        return make(last);
+    }
+    let new = move || -> Result<Vec<X>, NoMemory>
+        requires { F.pre make.now last }
+        ensures { IfOk result (λ v. MakesOf F.Fn make.entry.now last v.items) }
+    { make(last) };
+    let here = move || -> Result<Vec<X>, NoMemory>
+        requires { AcceptsJobs F.Fn make.now items.items }
+        ensures { IfOk result (λ v. MadeOfEach (MakesOf F.Fn make.entry.now) items.items v.items) }
+    { par_handed(rt, alloc, items, make) };
+    let (last, before) = thread::join(rt, new, here);
+    followed(before?, last?)
 }

@@ -2,7 +2,6 @@
 ghost use Rattle.std.specs.Prelude.{◌≡◌, ◌≤◌, ◌<◌, ◌++◌, List, IfOk};
 ghost use Rattle.og_par.specs.Phase.{AllowsOne, MadeOfEach};
 ghost use Rattle.og_par.specs.Limits.{max_workers};
-ghost use Rattle.og_par.specs.Parts.{JoinsAll};
 
 use crate::gate::Gate;
 use crate::piece::Piece;
@@ -16,8 +15,9 @@ pub const MAX_WORKERS: usize = 64;
 
 /// For each item one list that the piece allows for it, these lists one after the other, in the
 /// order of the items. The items are cut into chunks of their number divided by `workers`, rounded
-/// up, the last one perhaps shorter, which std's `map_chunks` runs; without items there is no chunk
-/// and no call of `enter`. `workers` is from 1 to `MAX_WORKERS`. Refused only for want of memory.
+/// up, the last one perhaps shorter, of which the first is made here and each other one in a thread of its
+/// own; without items there is no chunk and no call of `enter`. `workers` is from 1 to `MAX_WORKERS`.
+/// Refused only for want of memory.
 pub fn par_rows<H: Threads + Sync, T: Sync, P: Piece<T> + Sync, G: Gate + Sync>(
     rt: &H,
     alloc: Global,
@@ -36,17 +36,39 @@ where
         return Ok(Vec::new(alloc));
     }
     let size = items.len().div_ceil(workers);
-    let parts = thread::map_chunks(
-        rt,
-        alloc,
-        items,
-        size,
-        &|start: usize, chunk: &[T]| -> Result<Vec<P::Out>, NoMemory>
-            requires { 0 < size }
-            ensures { IfOk result (λ v. MadeOfEach (P.gives piece.entry.now) chunk.now v.items) }
-        { made_of_chunk(alloc, start / size, chunk, piece, gate) },
-    )?;
-    joined(alloc, parts)
+    made_of_chunks(rt, alloc, size, items, piece, gate)
+}
+
+// What is made of some items, in chunks of a size: the last one in a new thread, those before it from here.
+// So one thread begins all others, one after the other, and the system finds a free processor for each: two
+// threads that begin others at one time were put on one.
+fn made_of_chunks<H: Threads + Sync, T: Sync, P: Piece<T> + Sync, G: Gate + Sync>(
+    rt: &H,
+    alloc: Global,
+    size: usize,
+    items: &[T],
+    piece: &P,
+    gate: &G,
+) -> Result<Vec<P::Out>, NoMemory>
+where
+    P::Out: Send + Drop,
+    requires { 0 < size }
+    ensures { IfOk result (λ v. MadeOfEach (P.gives piece.now) items.now v.items) }
+{
+    if items.len() <= size {
+        return made_of_chunk(alloc, 0, items, piece, gate);
+    }
+    let number = (items.len() - 1) / size;
+    let (before, last) = items.split_at(number * size);
+    let new = move || -> Result<Vec<P::Out>, NoMemory>
+        ensures { IfOk result (λ v. MadeOfEach (P.gives piece.entry.now) last.entry.now v.items) }
+    { made_of_chunk(alloc, number, last, piece, gate) };
+    let here = move || -> Result<Vec<P::Out>, NoMemory>
+        requires { 0 < size }
+        ensures { IfOk result (λ v. MadeOfEach (P.gives piece.entry.now) before.entry.now v.items) }
+    { made_of_chunks(rt, alloc, size, before, piece, gate) };
+    let (last, before) = thread::join(rt, new, here);
+    followed(before?, last?)
 }
 
 // What is made of the items of one chunk, after the gate.
@@ -67,20 +89,6 @@ where
         piece.make(alloc, item, &mut out)?;
     }
     Ok(out)
-}
-
-// The parts one after the other, where each was made.
-pub(crate) fn joined<X: Drop>(
-    alloc: Global,
-    parts: Vec<Result<Vec<X>, NoMemory>>,
-) -> Result<Vec<X>, NoMemory>
-    ensures { IfOk result (λ v. JoinsAll parts.items v.items) }
-{
-    let mut all = Vec::new(alloc);
-    'parts: for part in parts {
-        all = followed(all, part?)?;
-    }
-    Ok(all)
 }
 
 /// The second list after the first; where the first is empty, the second as it lies in memory. Refused only
