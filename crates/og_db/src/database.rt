@@ -1,7 +1,6 @@
 //! The names of a run and what they hold.
 ghost use Rattle.std.specs.Prelude.{◌≡◌, ◌++◌, ◌<◌, ◌≤◌, ℕ, ℤ, List, [], ◌∷◌, Some, IfOk, OnOk, OnErr, length, map, slice_index_or};
 ghost use Rattle.std.specs.List.{All, IsDistinct};
-ghost use Rattle.std.specs.List.Sorted.{IsPermutation};
 ghost use Rattle.std.specs.Str.{bytes_eq};
 ghost use Rattle.og_base.specs.Calendar.{IsRefDay};
 ghost use Rattle.og_rel.specs.Relations.{instead, passing, relation_at};
@@ -31,7 +30,7 @@ use indexmap::IndexMap;
 use og_base::NoMemory;
 use og_expr::bounds_hold;
 use og_query::{Assign, Cond};
-use og_rel::{Rel, RowTest, Tables, replace_both};
+use og_rel::{Rel, RowTest, Tables};
 use og_value::{Catalog, Name, Row, Schema, What};
 use std::alloc::Global;
 use std::marker::Model;
@@ -209,29 +208,6 @@ impl Db {
             unreachable!();
         };
         self.names[at].rel.replace(test, more)
-    }
-
-    /// The same, and in another relation with its own test and rows, whose others may then come in another
-    /// order: in both or in neither. Refused only for want of memory, and then nothing has changed.
-    pub fn replace_with<T: RowTest<Row>, U: RowTest<Row>>(
-        &mut self,
-        name: &Name,
-        test: &T,
-        more: Rel<Row>,
-        other: &mut Rel<Row>,
-        other_test: &U,
-        other_more: Rel<Row>,
-    ) -> Result<(), NoMemory>
-        requires table { (columns : List Column) × IsTableOf columns self.old name.now × HaveKinds columns more }
-        ensures replaced { OnOk result (self.new ≡ changed_at name.now (instead (T.passes test.now) more) self.old) }
-        ensures other { OnOk result (IsPermutation other.new (instead (U.passes other_test.now) other_more other.old)) }
-        ensures refused { OnErr result ((self.new ≡ self.old) × (other.new ≡ other.old)) }
-    {
-        let Some(at) = self.names.get_index_of(name) else {
-            unreachable!();
-        };
-        let rel = &mut self.names[at].rel;
-        replace_both(rel, test, more, other, other_test, other_more)
     }
 
     /// Adds the rows to a table, each present on all days. Refused only for want of memory, and then

@@ -6,9 +6,8 @@
 //! with no more rows than its size (specs/Statements.antt); where they are refused nothing has
 //! changed. `delete` and `update` make of a table anew only the rows that their condition may touch (`Touched`, a
 //! test of single rows that takes no memory), and copy none before; what is left of these, or what assignments
-//! make of them, then stands in their place behind the other rows. `touched`, `left_of`, `gone_of`, `changed_of`, `assigned_of`,
-//! `replace` and `replace_with` are the steps alone, for one that changes another relation with the table, and
-//! `put` puts a whole relation in its place without memory. `keep` is given its rows: `Db` asks no
+//! make of them, then stands in their place behind the other rows. `touched`, `left_of`, `gone_of`, `changed_of`, `assigned_of`
+//! and `replace` are the steps alone, for one that changes another relation with the table, and `put` puts a whole relation in its place without memory. `keep` is given its rows: `Db` asks no
 //! query. So a live result has a name here and no rows:
 //! `live` adds it, `settle` makes it a kept result, and `drop_live` takes all of them out; what becomes of
 //! live results at a statement stands in specs/Live.antt. What statements on files make of a database and

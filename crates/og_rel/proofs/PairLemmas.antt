@@ -1,10 +1,8 @@
 -- The pairs that the code holds: those that pass a test or do not, and the rows of a day, of pairs one after the other and of the first pairs and one more.
-use Rattle.std.proofs.Common.{◌≡◌, ◌≢◌, true≢false, ◌++◌, ◌+◌, ◌<◌, ℕ, ℤ, Bool, true, false, not, cond, List, [], ◌∷◌, length, get_or, take, map, filter, refl, sym, ap, subst, ◌∙◌}
+use Rattle.std.proofs.Common.{◌≡◌, ◌≢◌, true≢false, ◌++◌, ◌+◌, ◌<◌, ℕ, ℤ, Bool, true, false, not, cond, List, [], ◌∷◌, length, get_or, take, map, filter, refl, sym, ap, ◌∙◌}
 use Rattle.std.specs.List.{All, flat_map}
-use Rattle.std.specs.List.Sorted.{IsPermutation}
 use Rattle.std.proofs.lemmas.List.{length-map, map-append, take_more}
 use Rattle.std.proofs.lemmas.List.Elements.{All-append, All-filter, filter_passes}
-use Rattle.std.proofs.lemmas.List.Sorted.{All-permutation, IsPermutation-map, IsPermutation-sym}
 use Rattle.og_base.specs.Ranges.{IsNormal, Range}
 use Rattle.og_rel.specs.declared.pair.Pair.{Pair}
 use Rattle.og_rel.specs.Relations.{HasDays, instead, others, passing, present, stored}
@@ -48,19 +46,6 @@ module _ {R : Type 0} (passes : R → Bool) (pairs : List (Pair R)) where
     pub replaced-days : All (λ p. HasDays p.days) pairs → All (λ p. HasDays p.days) more → All (λ p. HasDays p.days) after
     replaced-days days more_days =
         rw here (All-append (λ p. HasDays p.days) other_pairs more (All-filter (λ p. not (passes p.row)) (λ p. HasDays p.days) pairs days) more_days)
-
-  module _ (more before after : List (Pair R)) (same : before ≡ pairs) (moved : IsPermutation after (filter (λ p. not (passes p.row)) before ++ more)) where
-    -- the same in another order
-    pub exchanged-pairs : IsPermutation (map (λ p. (p.row, p.days)) after) (instead passes (map (λ p. (p.row, p.days)) more) (map (λ p. (p.row, p.days)) pairs))
-    exchanged-pairs =
-        subst (IsPermutation (map (λ p. (p.row, p.days)) after)) (replaced-pairs more before (filter (λ p. not (passes p.row)) before ++ more) same refl)
-        (IsPermutation-map (λ p. (p.row, p.days)) after (filter (λ p. not (passes p.row)) before ++ more) moved)
-
-    -- of which each has a day too
-    pub exchanged-days : All (λ p. HasDays p.days) pairs → All (λ p. HasDays p.days) more → All (λ p. HasDays p.days) after
-    exchanged-days days more_days =
-        All-permutation (λ p. HasDays p.days) (filter (λ p. not (passes p.row)) before ++ more) after (IsPermutation-sym after (filter (λ p. not (passes p.row)) before ++ more) moved)
-        (replaced-days more before (filter (λ p. not (passes p.row)) before ++ more) same refl days more_days)
 
 module _ {R F : Type 0} (at : R → ℤ → F) (d : ℤ) where
   -- of pairs one after the other

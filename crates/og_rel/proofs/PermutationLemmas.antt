@@ -1,10 +1,11 @@
 -- Lists in another order: what is made of one element by element is the same in another order, and a relation has the same rows at a day.
-use Rattle.std.proofs.Common.{◌≡◌, ◌++◌, ◌<◌, ℕ, ℤ, zero, suc, Bool, true, false, cond, List, [], ◌∷◌, length, get_or, set, swap, filter, Ordering, refl, sym, ap, subst, ⊎_elim, ◌+◌, ◌∙◌, arith}
+use Rattle.std.proofs.Common.{◌≡◌, ◌++◌, ◌<◌, ℕ, ℤ, zero, suc, List, [], ◌∷◌, length, get_or, set, swap, take, map, Ordering, sym, ap, subst, ◌-◌, ◌∙◌, arith}
 use Rattle.std.specs.List.Sorted.{IsPermutation}
-use Rattle.std.proofs.lemmas.Bool.{cases_eq}
-use Rattle.std.proofs.lemmas.List.{get_or_default}
-use Rattle.std.proofs.lemmas.List.Elements.{filter-append}
-use Rattle.std.proofs.lemmas.List.Sorted.{IsPermutation-append_comm, IsPermutation-append_left, IsPermutation-append_right, IsPermutation-keeps, IsPermutation-refl, IsPermutation-sym, IsPermutation-trans}
+use Rattle.std.specs.Prelude.{swap_remove}
+use lib.Seq.{map-set}
+use Rattle.std.specs.List.{take-map}
+use Rattle.std.proofs.lemmas.List.{get_or-map, length-map}
+use Rattle.std.proofs.lemmas.List.Sorted.{IsPermutation-append_comm, IsPermutation-append_left, IsPermutation-append_right, IsPermutation-keeps, IsPermutation-refl, IsPermutation-trans}
 use Rattle.og_base.specs.Ranges.{Range}
 use Rattle.og_base.specs.Set.{IsExactOrder}
 use Rattle.og_rel.specs.Relations.{present, relation_at}
@@ -55,31 +56,15 @@ module _ {X Y : Type 0} (f : List X → List Y) (along : (xs ys : List X) → f 
   pub IsPermutation-along : (xs ys : List X) → IsPermutation xs ys → IsPermutation (f xs) (f ys)
   IsPermutation-along xs = IsPermutation-keeps xs (λ l. IsPermutation (f xs) (f l)) (IsPermutation-refl (f xs)) (λ l i j p q h. chain xs l _ h (swapped l i j p q))
 
-module _ {X : Type 0} (keeps : X → Bool) where
-  -- the elements that are kept, of a list in another order
-  pub IsPermutation-filter : (xs ys : List X) → IsPermutation xs ys → IsPermutation (filter keeps xs) (filter keeps ys)
-  IsPermutation-filter = IsPermutation-along (filter keeps) (filter-append keeps)
-
-  -- where one is taken out that is not kept, and the others change places
-  pub taken_out : (x : X) (old new start : List X) → IsPermutation old (x ∷ new) → keeps x ≡ false → IsPermutation (filter keeps old) start → IsPermutation (filter keeps new) start
-  taken_out x old new start moved out before =
-      IsPermutation-trans (filter keeps new) (filter keeps old) start
-      (subst (λ b. IsPermutation (cond b (x ∷ filter keeps new) (filter keeps new)) (filter keeps old)) out (IsPermutation-sym (filter keeps old) (filter keeps (x ∷ new)) (IsPermutation-filter old (x ∷ new) moved)))
-      before
-
-  -- where the first ones are kept, and the next
-  pub one_more_kept : (xs : List X) (i : ℕ) (x : X) → i < length xs → x ≡ get_or xs i x → keeps x ≡ true → ((k : ℕ) (d : X) → k < i → keeps (get_or xs k d) ≡ true)
-      → (k : ℕ) (d : X) → k < i + 1 → keeps (get_or xs k d) ≡ true
-  one_more_kept xs i x there is stays kept k d l =
-      ⊎_elim
-      (λ e. ap (λ n. keeps (get_or xs n d)) e ∙ ap keeps (get_or_default xs i d x there ∙ sym is) ∙ stays)
-      (λ n. kept k d (omega (arith, n, l)))
-      (cases_eq k i)
-
-  -- where all are kept
-  pub all_kept : (xs : List X) → ((k : ℕ) (d : X) → k < length xs → keeps (get_or xs k d) ≡ true) → filter keeps xs ≡ xs
-  all_kept [] h = refl
-  all_kept (x ∷ xs) h = rw (h 0 x (omega arith), all_kept xs (λ k d l. h (suc k) d (omega arith))) refl
+-- what is made of the elements, where one is taken out and the last one comes to its place
+pub map-swap_remove : {X Y : Type 0} (f : X → Y) (xs : List X) (i : ℕ) (x : X) (y : Y) → i < length xs → map f (swap_remove xs i x) ≡ swap_remove (map f xs) i y
+map-swap_remove f xs i x y there =
+    let n = length xs - 1 in
+    let long : length (map f xs) ≡ length xs = length-map xs f in
+    let last : f (get_or xs n x) ≡ get_or (map f xs) n y = sym (get_or-map f xs n x y (omega (arith, there))) in
+    sym (take-map f n (set xs i (get_or xs n x)))
+    ∙ ap (take n) (map-set f xs i (get_or xs n x) ∙ ap (set (map f xs) i) last)
+    ∙ ap (λ m. take (m - 1) (set (map f xs) i (get_or (map f xs) (m - 1) y))) (sym long)
 
 module _ {R F : Type 0} {cmp : F → F → Ordering} (o : IsExactOrder cmp) (at : R → ℤ → F) where
   -- a relation in another order has the same rows at a day

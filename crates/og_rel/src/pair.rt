@@ -1,7 +1,6 @@
 //! A row and the days on which it is present.
 ghost use Rattle.std.specs.Prelude.{◌≡◌, ◌++◌, ◌+◌, ◌≤◌, [], ◌∷◌, IfOk, OnOk, filter, length, not};
 ghost use Rattle.std.specs.List.{All};
-ghost use Rattle.std.specs.List.Sorted.{IsPermutation};
 ghost use Rattle.std.specs.Vec.{vec_capacity, vec_len};
 ghost use Rattle.og_base.specs.Ranges.{IsNormal};
 ghost use Rattle.og_rel.specs.Pairs.{has_day, present_of_pairs};
@@ -114,30 +113,6 @@ pub(crate) fn replace_pairs<R: Drop, T: RowTest<R>>(
             ensures { result ≡ not (T.passes test.entry.now pair.now.row) }
         { !test.test(&pair.row) },
     );
-    let mut more = more;
-    let Ok(()) = pairs.append(&mut more) else {
-        unreachable!();
-    };
-}
-
-// Puts more pairs in the place of those whose rows pass the test, as `replace_pairs` does, where their order
-// does not matter: the last pair comes to the place of one that is taken out, and no other is moved.
-pub(crate) fn exchange_pairs<R: Drop, T: RowTest<R>>(
-    pairs: &mut Vec<Pair<R>>,
-    test: &T,
-    more: Vec<Pair<R>>,
-)
-    requires { vec_len pairs.old + vec_len more ≤ vec_capacity pairs.old }
-    ensures { IsPermutation pairs.new.items (filter (λ p. not (T.passes test.now p.row)) pairs.old.items ++ more.items) }
-{
-    let mut i = 0;
-    'pairs: while i < pairs.len() {
-        if test.test(&pairs[i].row) {
-            drop(pairs.swap_remove(i));
-        } else {
-            i += 1;
-        }
-    }
     let mut more = more;
     let Ok(()) = pairs.append(&mut more) else {
         unreachable!();

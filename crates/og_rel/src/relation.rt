@@ -1,7 +1,6 @@
 //! Relations.
-ghost use Rattle.std.specs.Prelude.{◌≡◌, ◌++◌, ◌<◌, ◌≤◌, List, [], ◌∷◌, IfOk, OnOk, OnErr, length, map, slice_index_or, take};
+ghost use Rattle.std.specs.Prelude.{◌≡◌, ◌++◌, ◌<◌, ◌≤◌, List, [], ◌∷◌, IfOk, OnOk, OnErr, length, map, slice_index_or, swap_remove, take};
 ghost use Rattle.std.specs.List.{All, flat_map};
-ghost use Rattle.std.specs.List.Sorted.{IsPermutation};
 ghost use Rattle.og_base.specs.Ranges.{Range};
 ghost use Rattle.og_par.specs.Limits.{max_workers};
 ghost use Rattle.og_rel.specs.Relations.{HasDays, instead, others, passing, relation_at, stored};
@@ -9,8 +8,7 @@ ghost use Rattle.og_rel.specs.Relations.{HasDays, instead, others, passing, rela
 use crate::blocks::LEAST;
 use crate::by_workers::rows_by_workers;
 use crate::pair::{
-    Pair, add_passing, count_other_pairs, exchange_pairs, pairs_with_days, present_rows,
-    replace_pairs,
+    Pair, add_passing, count_other_pairs, pairs_with_days, present_rows, replace_pairs,
 };
 use crate::row_test::RowTest;
 use og_base::{Instant, NoMemory, OngoingRow, RefDay, RtSet, rising};
@@ -109,6 +107,16 @@ impl<R> Rel<R> {
         ensures { self.new ≡ take len self.old }
     {
         self.pairs.truncate(len);
+    }
+
+    /// Takes the row at that place out; the last row comes to its place, and no other is moved. Takes no memory.
+    pub fn swap_remove(&mut self, i: usize)
+    where
+        R: Drop,
+        requires { i < length self.old }
+        ensures { (p : R × List Range) → self.new ≡ swap_remove self.old i p }
+    {
+        drop(self.pairs.swap_remove(i));
     }
 
     /// The number of rows that do not pass the test: those that `replace` leaves. Takes no memory.
@@ -219,26 +227,4 @@ impl<R: OngoingRow> Rel<R> {
         let alloc = *self.pairs.allocator();
         rows_by_workers(rt, alloc, workers, self.pairs.as_slice(), d, gate)
     }
-}
-
-/// Puts rows in the place of those that pass a test in each of two relations, as `replace` does in one: in
-/// both or in neither. The others of the second may then come in another order, so that few of them are
-/// moved. Refused only for want of memory, and then nothing has changed.
-pub fn replace_both<R: Drop, S: Drop, T: RowTest<R>, U: RowTest<S>>(
-    first: &mut Rel<R>,
-    first_test: &T,
-    first_more: Rel<R>,
-    second: &mut Rel<S>,
-    second_test: &U,
-    second_more: Rel<S>,
-) -> Result<(), NoMemory>
-    ensures first_replaced { OnOk result (first.new ≡ instead (T.passes first_test.now) first_more first.old) }
-    ensures second_replaced { OnOk result (IsPermutation second.new (instead (U.passes second_test.now) second_more second.old)) }
-    ensures refused { OnErr result ((first.new ≡ first.old) × (second.new ≡ second.old)) }
-{
-    first.pairs.reserve(first_more.pairs.len())?;
-    second.pairs.reserve(second_more.pairs.len())?;
-    replace_pairs(&mut first.pairs, first_test, first_more.pairs);
-    exchange_pairs(&mut second.pairs, second_test, second_more.pairs);
-    Ok(())
 }

@@ -2,6 +2,7 @@ pub mod AgainLemmas
 pub mod AnswerLemmas
 pub mod BaseLemmas
 pub mod ChangedLemmas
+pub mod FirstLemmas
 pub mod GrownLemmas
 pub mod InsertedLemmas
 pub mod LiveLemmas
@@ -12,6 +13,7 @@ pub mod OnceLemmas
 pub mod PartLemmas
 pub mod PlacedLemmas
 pub mod RederivedLemmas
+pub mod RemovedLemmas
 pub mod SameLemmas
 pub mod SieveLemmas
 pub mod TakenLemmas

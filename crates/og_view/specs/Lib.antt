@@ -1,4 +1,5 @@
 pub mod Again
+pub mod Answers
 pub mod Bases
 pub mod Numbers
 pub mod Parts

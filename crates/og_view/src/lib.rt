@@ -9,7 +9,7 @@
 //! asks each core for the rows that it has by the new ones, at one place of FROM after the other
 //! (specs/Placed.antt). `delete` and `update` ask so for the rows that the cores had by the rows that are
 //! taken. Such a row may have come from others too: so the rows of the result that may be like one of them
-//! (`Sieve`, specs/Sieves.antt) give place to those that the cores still have of these, asked over the rows of
+//! (`Sieve`, specs/Sieves.antt; `Answer` finds them by numbers beside them) give place to those that the cores still have of these, asked over the rows of
 //! the tables alone that they can be made of (specs/Again.antt). The query is asked anew only where the rows
 //! would be more than its size.
 //!
@@ -17,6 +17,7 @@
 #![tactic(auto)]
 
 mod again;
+mod answer;
 mod asked;
 mod bases;
 mod change;

@@ -1,5 +1,7 @@
 //! Tests of one number of a row: of a sieve what tells most rows at the least cost.
-ghost use Rattle.std.specs.Prelude.{◌≡◌};
+ghost use Rattle.std.specs.Prelude.{◌≡◌, List, Some, IsFalse, false};
+ghost use Rattle.og_value.specs.Heads.{number_at};
+ghost use Rattle.og_value.specs.declared.value.Value.{Value};
 ghost use Rattle.og_view.specs.RangeTests.{may_pass};
 
 use og_value::Row;
@@ -21,5 +23,12 @@ impl RangeTest {
             Some(n) => self.least <= n && n <= self.greatest,
             None => true,
         }
+    }
+
+    // Whether a row may pass that begins with the number.
+    pub(crate) fn may_begin(&self, first: &i64) -> bool
+        ensures { IsFalse result → (row : List Value) → number_at row 0 ≡ Some first.now → may_pass self.now row ≡ false }
+    {
+        self.column != 0 || (self.least <= *first && *first <= self.greatest)
     }
 }

@@ -1,8 +1,10 @@
 //! Sieves: what stands in the columns of some rows, so that other rows are told from them.
-ghost use Rattle.std.specs.Prelude.{◌≡◌, ◌++◌, ◌∷◌, ℕ, ℤ, Some, true, [], IsTrue, IfOk, IfSome, OnOk, filter, length};
+ghost use Rattle.std.specs.Prelude.{◌≡◌, ◌++◌, ◌∷◌, ℕ, ℤ, List, Some, true, false, [], IsTrue, IsFalse, IfOk, IfSome, OnOk, filter, length};
 ghost use Rattle.std.specs.List.{All};
+ghost use Rattle.og_value.specs.Heads.{number_at};
 ghost use Rattle.og_value.specs.Values.{value_at};
 ghost use Rattle.og_value.specs.declared.value.FixedValue.{FixedValue};
+ghost use Rattle.og_value.specs.declared.value.Value.{Value as AnyValue};
 ghost use Rattle.og_query.specs.Queries.{Fixed};
 ghost use Rattle.og_view.specs.RangeTests.{Tells};
 ghost use Rattle.og_view.specs.Sieves.{is_among, meets, passes, row_meets, row_passes, tests_from};
@@ -188,6 +190,16 @@ impl<'k> Sieve<'k> {
             add_test(&mut tests, start.checked_add(i), &columns[i])?;
         }
         Ok(Sieve::new(tests))
+    }
+
+    // Whether a row may pass that begins with the number.
+    pub(crate) fn may_begin(&self, first: &i64) -> bool
+        ensures { IsFalse result → (row : List AnyValue) → number_at row 0 ≡ Some first.now → row_passes self.now row ≡ false }
+    {
+        match &self.first {
+            Some(range) => range.may_begin(first),
+            None => true,
+        }
     }
 
     // Whether the row passes each test. Few rows come so far, so the others need not make room for this call.

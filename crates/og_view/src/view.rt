@@ -24,6 +24,7 @@ ghost use Rattle.og_view.specs.Sieves.{passes, row_passes};
 ghost use Rattle.og_view.specs.Views.{IsLiveQuery};
 
 use crate::again::again_of;
+use crate::answer::Answer;
 use crate::asked::Asked;
 use crate::bases::bases_of;
 use crate::change::{Change, Changed};
@@ -53,7 +54,7 @@ pub struct View {
     asked: Asked,
     cores: Vec<Placed>,
     bases: Db,
-    result: Rel<Row>,
+    result: Answer,
 }
 
 impl Model for View {
@@ -99,7 +100,8 @@ impl View {
         bases.rows_fit();
         let asked = Asked::new(alloc, query)?;
         let cores = placed_cores(alloc, query)?;
-        let result = asked.answered(rt, alloc, &bases, workers, gate)?;
+        let rel = asked.answered(rt, alloc, &bases, workers, gate)?;
+        let result = Answer::new(alloc, rel);
         Ok(View {
             asked,
             cores,
@@ -112,14 +114,14 @@ impl View {
     pub fn rel(&self) -> &Rel<Row>
         ensures { result.now ≡ self.now.result }
     {
-        &self.result
+        self.result.rel()
     }
 
     /// The result alone. Takes no memory.
     pub fn into_rel(self) -> Rel<Row>
         ensures { result ≡ self.result }
     {
-        self.result
+        self.result.into_rel()
     }
 
     /// Whether the query uses the name. Takes no memory.
@@ -477,15 +479,24 @@ impl View {
     {
         let over = Instead::new(&self.bases, name, test, passing, &changed);
         let most = size_of(self.asked.query(), &over);
-        if !has_room(&self.result, sieve, more.len(), most) {
+        if !has_room(self.result.rel(), sieve, more.len(), most) {
             return self.renew(rt, alloc, name, test, changed, workers, gate);
         }
         over.rows_fit();
         fitting_rows();
-        self.bases
-            .replace_with(name, test, changed, &mut self.result, sieve, more)?;
-        self.result.some_days();
-        Ok(())
+        let len = self.result.rel().len();
+        self.result.append(more)?;
+        match self.bases.replace(name, test, changed) {
+            Ok(()) => {
+                self.result.take_out(len, sieve);
+                self.result.rel().some_days();
+                Ok(())
+            }
+            Err(refusal) => {
+                self.result.truncate(len);
+                Err(refusal)
+            }
+        }
     }
 
     // Puts rows of a base in the place of those that pass a test, and appends more rows to the result, where that
@@ -514,7 +525,7 @@ impl View {
     {
         let over = Instead::new(&self.bases, name, test, passing, &changed);
         let most = size_of(self.asked.query(), &over);
-        let len = self.result.len();
+        let len = self.result.rel().len();
         if len > most || more.len() > most - len {
             return self.renew(rt, alloc, name, test, changed, workers, gate);
         }
@@ -523,7 +534,7 @@ impl View {
         self.result.append(more)?;
         match self.bases.replace(name, test, changed) {
             Ok(()) => {
-                self.result.some_days();
+                self.result.rel().some_days();
                 Ok(())
             }
             Err(refusal) => {
@@ -556,7 +567,7 @@ impl View {
         bases.rows_fit();
         let result = self.asked.answered(rt, alloc, &bases, workers, gate)?;
         self.bases.put(name, rel);
-        self.result = result;
+        self.result = Answer::new(alloc, result);
         Ok(())
     }
 }

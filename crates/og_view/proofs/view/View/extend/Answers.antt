@@ -5,7 +5,7 @@ use Rattle.og_base.specs.Calendar.{IsRefDay}
 use Rattle.og_base.specs.Set.{set_of}
 use Rattle.og_value.specs.Order.{row_order}
 use Rattle.og_value.specs.Values.{row_at}
-use Rattle.og_rel.specs.Relations.{instead}
+use Rattle.og_rel.specs.Relations.{HasDays, instead}
 use Rattle.og_rel.proofs.PresentLemmas.{relation_at-append}
 use Rattle.og_query.specs.Fits.{IsFitQuery, tables_of}
 use Rattle.og_query.specs.Queries.{ordinary_query}
@@ -44,13 +44,13 @@ invariant_of-self-in-Ok g c =
     ∙ sym (ap (λ db. ordinary_query d (rows_at (rows_of db) d) query) c.new-over.ensures) in
     let most : length (result ++ more) ≤ query_size (sizes_of (rows_of bases)) query =
     subst (λ q. length (result ++ more) ≤ query_size (sizes_of (rows_of bases)) q) c.query.ensures
-    (omega (arith, length-append result more, c.len-len.ensures, c.len.ensures, c.if-len-most.false, c.if-len-most-2.false, c.size_of-most.ensures)) in (
+    (omega (arith, length-append result more, c.len-len.ensures ∙ ap length c.rel.ensures, c.len.ensures, c.if-len-most.false, c.if-len-most-2.false, c.size_of-most.ensures)) in (
       subst (λ db. IsAnswered (seen query db c.append.new.self)) (c.new-over.ensures ∙ sym (subst (λ r. OnOk r (c.replace.new.self ≡ changed_at name (instead passes c.args.changed) old)) c.in-Ok.is c.replace.ensures.replaced)) (record {
         live = was.live;
         fits = fits;
         law = law;
         size = subst (λ rows. length rows ≤ query_size (sizes_of (rows_of bases)) query) (sym c.in_ok-append.ensures.appended) most;
-        kinds = c.fitting_rows.ensures.on_all_days query.first.schema c.append.new.self c.some_days.ensures
+        kinds = c.fitting_rows.ensures.on_all_days query.first.schema c.append.new.self (subst (All (λ p. HasDays p.1)) c.rel-in-Ok.ensures c.some_days.ensures)
             (λ d day. subst (All (IsFitFixed query.first.schema)) (sym (law d day))
             (answer_fits d (rows_at (rows_of bases) d) schemas query fits (tables_fit schemas (rows_of bases) (tables_held (known_of bases) (rows_of bases) c.rows_fit.ensures.held) c.fitting_rows.ensures.on_a_day d query fits)));
       }),

@@ -18,12 +18,12 @@ pub invariant_of-self : goal.invariant_of-self
 invariant_of-self g c =
     let query = c.self.inside.asked in
     let now = c.new-bases.result in (
-      subst (λ bases. IsAnswered (seen query bases c.in_ok-result.result)) (c.new-bases.ensures ∙ sym c.put.ensures) (record {
+      subst (λ rel. IsAnswered (seen query c.put.new.self rel)) (sym c.new.ensures) (subst (λ bases. IsAnswered (seen query bases c.in_ok-result.result)) (c.new-bases.ensures ∙ sym c.put.ensures) (record {
         live = c.self.invariant.0.live;
         fits = fits_changed c.self.inside.bases c.args.name.now (λ _. c.in_ok-rel.rel) now c.new-bases.ensures query c.self.invariant.0.fits;
         law = c.in_ok-result.ensures.law;
         size = c.in_ok-result.ensures.size;
         kinds = c.in_ok-result.ensures.kinds;
-      }),
+      })),
       c.self.invariant.1,
     )
