@@ -1,9 +1,9 @@
 -- Whether a row meets some of the rows that are lent from a relation: of one more row, and of the rows in another order.
-use Rattle.std.proofs.Common.{◌≡◌, ◌++◌, ◌+◌, ◌<◌, ◌&&◌, ◌||◌, ℕ, ℤ, Bool, true, false, List, [], ◌∷◌, length, get_or, filter, take, if◌then◌else◌, Ordering, sym, ap, ◌∙◌}
+use Rattle.std.proofs.Common.{◌≡◌, ◌++◌, ◌+◌, ◌<◌, ◌&&◌, ◌||◌, ℕ, ℤ, Bool, true, false, List, [], ◌∷◌, length, get_or, filter, take, drop, if◌then◌else◌, Ordering, sym, ap, ◌∙◌}
 use Rattle.std.specs.List.{list_any}
 use Rattle.std.specs.List.Sorted.{IsPermutation}
 use Rattle.std.proofs.Math.Bool.{and-false, and-true, or-false}
-use Rattle.std.proofs.lemmas.List.{map-append, take_more}
+use Rattle.std.proofs.lemmas.List.{map-append, take-append-drop, take_more}
 use Rattle.std.proofs.lemmas.List.Elements.{filter_agree}
 use Rattle.std.proofs.lemmas.List.Folds.{list_any-append}
 use Rattle.std.proofs.lemmas.List.Sorted.{IsPermutation-map, list_any-IsPermutation}
@@ -24,8 +24,8 @@ module _ {F : Type 0} (t : F → Bool) (x : F) where
   any_one false = and-false (t x)
 
   -- the days found so far, and those on which the row is there and meets
-  pub met_one : (all found shared met here : Bool) → all ≡ (found || shared) → shared ≡ (met && here) → met ≡ t x → all ≡ (found || list_any t (if here then x ∷ [] else []))
-  met_one all found shared met here e k m = e ∙ ap (λ b. found || b) (k ∙ ap (λ b. b && here) m ∙ any_one here)
+  pub met_one : (all found shared here : Bool) → all ≡ (found || shared) → shared ≡ (t x && here) → all ≡ (found || list_any t (if here then x ∷ [] else []))
+  met_one all found shared here e k = e ∙ ap (λ b. found || b) (k ∙ any_one here)
 
   -- a row that does not meet adds nothing
   pub met_none : (found here : Bool) → t x ≡ false → found ≡ (found || list_any t (if here then x ∷ [] else []))
@@ -40,6 +40,15 @@ module _ {R F K : Type 0} (at : R → ℤ → F) (t : F → Bool) (d : ℤ) wher
       ∙ ap (λ q. list_any t (present at q d)) (map-append (λ q. (q.row.now, q.days.now)) (take i rows) (s ∷ []))
       ∙ ap (list_any t) (present-append at (lent (take i rows)) ((s.row.now, s.days.now) ∷ []) d)
       ∙ list_any-append t (present at (lent (take i rows)) d) (present at ((s.row.now, s.days.now) ∷ []) d))
+
+  -- a test of the rows of a day, by two parts of them
+  pub lent_halves : (rows : List (KeyedRow R K)) (i : ℕ)
+      → (list_any t (present at (lent (take i rows)) d) || list_any t (present at (lent (drop i rows)) d)) ≡ list_any t (present at (lent rows) d)
+  lent_halves rows i =
+      sym (ap (λ q. list_any t (present at (lent q) d)) (sym (take-append-drop i rows))
+      ∙ ap (λ q. list_any t (present at q d)) (map-append (λ q. (q.row.now, q.days.now)) (take i rows) (drop i rows))
+      ∙ ap (list_any t) (present-append at (lent (take i rows)) (lent (drop i rows)) d)
+      ∙ list_any-append t (present at (lent (take i rows)) d) (present at (lent (drop i rows)) d))
 
   -- a test of the rows of a day in another order
   pub lent_found-IsPermutation : (rows sorted : List (KeyedRow R K)) → IsPermutation rows sorted → list_any t (present at (lent sorted) d) ≡ list_any t (present at (lent rows) d)

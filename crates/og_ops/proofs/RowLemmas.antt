@@ -42,6 +42,11 @@ pub filter-one : {F : Type 0} (p : F → Bool) (x : F) (h k : Bool) → k ≡ (h
 filter-one p x true k e = ap (λ b. if b then x ∷ [] else []) e
 filter-one p x false k e = ap (λ b. if b then x ∷ [] else []) e
 
+-- the image of a row on its days
+pub map-one : {F : Type 0} (f : F → F) (x : F) (h : Bool) → (if h then f x ∷ [] else []) ≡ map f (if h then x ∷ [] else [])
+map-one f x true = refl
+map-one f x false = refl
+
 -- a row where the test does not hold, and its image where it does, is the row replaced
 pub replaced-one : {F : Type 0} (p : F → Bool) (f : F → F) (x : F) (h others changed : Bool) → others ≡ (h && not (p x)) → changed ≡ (h && p x)
     → (if others then x ∷ [] else []) ++ (if changed then f x ∷ [] else []) ≡ map (replaced p f) (if h then x ∷ [] else [])

@@ -78,18 +78,33 @@ pub fn test_pair_with<R: Glue + Drop, C: DayCond<R>, M: PairMap<R>>(
     if !cond.may_hold(left, right) {
         return Ok(None);
     }
-    let both = left_days.meet(right_days)?;
-    if both.is_empty() {
-        return Ok(None);
-    }
-    let met = cond.days_of_pair(alloc, left, right)?;
-    let days = both.meet(&met)?;
+    let days = days_of_hit(alloc, left, left_days, right, right_days, cond)?;
     days.normal();
     if days.is_empty() {
         return Ok(None);
     }
     let row = pair_map.map_pair(alloc, left, right)?;
     Ok(Some(Hit { row, days }))
+}
+
+// The days on which both rows are present and the condition holds of them glued.
+fn days_of_hit<R: Glue + Drop, C: DayCond<R>>(
+    alloc: Global,
+    left: &R,
+    left_days: &RtSet,
+    right: &R,
+    right_days: &RtSet,
+    cond: &C,
+) -> Result<RtSet, NoMemory>
+    ensures { IfOk result (λ days. (d : ℤ) → IsRefDay d →
+        holds_day days d ≡ is_hit R.glued (C.holds cond.now) (R.meaning left.now) (R.meaning right.now) left_days.now right_days.now d) }
+{
+    let both = left_days.meet(right_days)?;
+    if both.is_empty() {
+        return Ok(both);
+    }
+    let met = cond.days_of_pair(alloc, left, right)?;
+    both.meet(&met)
 }
 
 // The glued row on the days on which both rows are present; None where there is no such day.

@@ -1,5 +1,5 @@
 //! Rows of a relation on the days on which they meet some row of another, or none.
-ghost use Rattle.std.specs.Prelude.{◌≡◌, ◌++◌, ◌+◌, ◌≤◌, ◌||◌, ℕ, ℤ, Bool, true, false, List, [], ◌∷◌, IfOk, OnOk, filter, length};
+ghost use Rattle.std.specs.Prelude.{◌≡◌, ◌++◌, ◌+◌, ◌≤◌, ◌&&◌, ◌||◌, ℕ, ℤ, Bool, true, false, List, [], ◌∷◌, IfOk, OnOk, filter, length};
 ghost use Rattle.std.specs.List.{list_any};
 ghost use Rattle.std.specs.List.Sorted.{IsPartitionedBy, IsPartitionPoint};
 ghost use Rattle.std.specs.Ordering.{eq_by_cmp, is_lt, is_le, nat_cmp};
@@ -22,6 +22,9 @@ use std::alloc::Global;
 use std::cmp::Ordering;
 use std::marker::Model;
 use std::thread::Threads;
+
+// How many rows are gone over one after the other: for more the days of each half are found first.
+const FEW: usize = 16;
 
 /// A row of a relation, its days, and its key.
 #[derive(Drop)]
@@ -179,27 +182,16 @@ fn sought_days<R: Glue, M: Matching<R>>(
     ensures { IfOk result (λ s. (d : ℤ) → IsRefDay d → holds_day s d
         ≡ list_any (M.meets matching.now d (R.meaning left.now d)) (present R.meaning (lent members.now) d)) }
 {
-    let none = RtSet::empty(alloc);
     let Some(groups) = matching.seek(left) else {
-        return met_days(alloc, matching, none, left, members);
+        return met_days(alloc, matching, left, members);
     };
-    let found = met_days(
-        alloc,
-        matching,
-        none,
-        left,
-        with_key(&groups.first, members),
-    )?;
+    let first = with_key(&groups.first, members);
     if groups.second == groups.first {
-        return Ok(found);
+        return met_days(alloc, matching, left, first);
     }
-    met_days(
-        alloc,
-        matching,
-        found,
-        left,
-        with_key(&groups.second, members),
-    )
+    let found = met_days(alloc, matching, left, first)?;
+    let others = met_days(alloc, matching, left, with_key(&groups.second, members))?;
+    found.union(&others)
 }
 
 // The rows of the relation, once for each of their groups, in the order of the groups.
@@ -297,18 +289,37 @@ fn is_within<R, K: Ord>(key: &K, row: &KeyedRow<'_, R, K>) -> bool
     row.key <= *key
 }
 
-// The days found so far, and those on which the left row meets one of the rows, which is present.
+// The days on which the left row meets one of the rows, which is present. The days of many rows are put together by
+// halves, so that each range is gone over some log n times.
 fn met_days<R: Glue, M: Matching<R>>(
     alloc: Global,
     matching: &M,
-    found: RtSet,
     left: &R,
     rows: &[KeyedRow<'_, R, u64>],
 ) -> Result<RtSet, NoMemory>
     ensures { IfOk result (λ s. (d : ℤ) → IsRefDay d → holds_day s d
-        ≡ (holds_day found d || list_any (M.meets matching.now d (R.meaning left.now d)) (present R.meaning (lent rows.now) d))) }
+        ≡ list_any (M.meets matching.now d (R.meaning left.now d)) (present R.meaning (lent rows.now) d)) }
 {
-    let mut found = found;
+    if rows.len() <= FEW {
+        return met_in_turn(alloc, matching, left, rows);
+    }
+    let (first, second) = rows.split_at(rows.len() / 2);
+    let found = met_days(alloc, matching, left, first)?;
+    let others = met_days(alloc, matching, left, second)?;
+    found.union(&others)
+}
+
+// The same of a few rows, one after the other.
+fn met_in_turn<R: Glue, M: Matching<R>>(
+    alloc: Global,
+    matching: &M,
+    left: &R,
+    rows: &[KeyedRow<'_, R, u64>],
+) -> Result<RtSet, NoMemory>
+    ensures { IfOk result (λ s. (d : ℤ) → IsRefDay d → holds_day s d
+        ≡ list_any (M.meets matching.now d (R.meaning left.now d)) (present R.meaning (lent rows.now) d)) }
+{
+    let mut found = RtSet::empty(alloc);
     'rows: for other in rows {
         found = more_days(alloc, matching, found, left, other.row, other.days)?;
     }
@@ -330,10 +341,24 @@ fn more_days<R: Glue, M: Matching<R>>(
     if !matching.may_meet(left, other) {
         return Ok(found);
     }
-    let met = matching.meeting_days(alloc, left, other)?;
-    let shared = met.meet(days)?;
+    let shared = shared_days(alloc, matching, left, other, days)?;
     if shared.is_empty() {
         return Ok(found);
     }
     found.union(&shared)
+}
+
+// Those of the days on which the two rows meet.
+fn shared_days<R: Glue, M: Matching<R>>(
+    alloc: Global,
+    matching: &M,
+    left: &R,
+    other: &R,
+    days: &RtSet,
+) -> Result<RtSet, NoMemory>
+    ensures { IfOk result (λ s. (d : ℤ) → IsRefDay d → holds_day s d
+        ≡ (M.meets matching.now d (R.meaning left.now d) (R.meaning other.now d) && holds_day days.now d)) }
+{
+    let met = matching.meeting_days(alloc, left, other)?;
+    met.meet(days)
 }

@@ -17,7 +17,6 @@ pub struct From1 {
 
 /// A SELECT: of each combination of one row from each table, joined to one row, those for which the
 /// condition holds and which meet each semi, mapped to the items.
-#[derive(Drop)]
 pub struct Core {
     pub tables: Items<From1>,
     /// The conditions of ON in order and then that of WHERE, as one `And`.
@@ -28,13 +27,36 @@ pub struct Core {
     pub schema: Schema,
 }
 
+// A call of its own: what drops a SELECT has one step for it.
+impl Drop for Core {
+    fn drop(self) {
+        let Core {
+            tables: _tables,
+            cond: _cond,
+            semis: _semis,
+            items: _items,
+            schema: _schema,
+        } = self;
+    }
+}
+
 /// A condition of EXISTS, which is positive, or of NOT EXISTS. Its columns are places in the row of
 /// the core's tables followed by a row of this table.
-#[derive(Drop)]
 pub struct Semi {
     pub positive: bool,
     pub table: From1,
     pub cond: Cond,
+}
+
+// A call of its own: what drops a condition of EXISTS has one step for it.
+impl Drop for Semi {
+    fn drop(self) {
+        let Semi {
+            positive: _positive,
+            table: _table,
+            cond: _cond,
+        } = self;
+    }
 }
 
 /// A further core, and the operator before it.

@@ -103,10 +103,19 @@ pub enum Stmt {
 }
 
 /// An assignment of UPDATE.
-#[derive(Drop)]
 pub struct SetText {
     pub column: Name,
     pub expr: ExprText,
+}
+
+// A call of its own: what drops an assignment has one step for it.
+impl Drop for SetText {
+    fn drop(self) {
+        let SetText {
+            column: _column,
+            expr: _expr,
+        } = self;
+    }
 }
 
 /// A query: a core, and further ones that are combined with it from the left.
@@ -124,7 +133,6 @@ pub struct RestText {
 }
 
 /// A SELECT. The condition is that of WHERE without its conditions of EXISTS and NOT EXISTS.
-#[derive(Drop)]
 pub struct CoreText {
     pub items: ItemsText,
     pub tables: Items<FromText>,
@@ -132,13 +140,36 @@ pub struct CoreText {
     pub semis: Items<SemiText>,
 }
 
+// A call of its own: what drops a SELECT has one step for it.
+impl Drop for CoreText {
+    fn drop(self) {
+        let CoreText {
+            items: _items,
+            tables: _tables,
+            cond: _cond,
+            semis: _semis,
+        } = self;
+    }
+}
+
 /// A condition of EXISTS, which is positive, or of NOT EXISTS.
-#[derive(Drop)]
 pub struct SemiText {
     pub positive: bool,
     pub name: Name,
     pub alias: Option<Name>,
     pub cond: Option<CondText>,
+}
+
+// A call of its own: what drops a condition of EXISTS has one step for it.
+impl Drop for SemiText {
+    fn drop(self) {
+        let SemiText {
+            positive: _positive,
+            name: _name,
+            alias: _alias,
+            cond: _cond,
+        } = self;
+    }
 }
 
 /// What a SELECT gives: all columns, or a list of items.
@@ -149,18 +180,37 @@ pub enum ItemsText {
 }
 
 /// An item of a SELECT, with the name that AS gives it.
-#[derive(Drop)]
 pub struct ItemText {
     pub expr: ExprText,
     pub name: Option<Name>,
 }
 
+// A call of its own: what drops an item has one step for it.
+impl Drop for ItemText {
+    fn drop(self) {
+        let ItemText {
+            expr: _expr,
+            name: _name,
+        } = self;
+    }
+}
+
 /// A name of FROM, its alias, and the condition where it stands after JOIN.
-#[derive(Drop)]
 pub struct FromText {
     pub name: Name,
     pub alias: Option<Name>,
     pub on: Option<CondText>,
+}
+
+// A call of its own: what drops a table of FROM has one step for it.
+impl Drop for FromText {
+    fn drop(self) {
+        let FromText {
+            name: _name,
+            alias: _alias,
+            on: _on,
+        } = self;
+    }
 }
 
 impl ExprText {

@@ -46,10 +46,20 @@ impl<T: Drop> Places<T> {
 
 /// Parts, seen as their list. At most two take no memory of their own. Lists are ordered from the left,
 /// and a list comes after each front of it.
-#[derive(Debug, Drop)]
+#[derive(Debug)]
 pub struct Listed<T> {
     alloc: Global,
     places: Places<T>,
+}
+
+// A call of its own: what drops a list has one step for it, wherever its parts lie.
+impl<T: Drop> Drop for Listed<T> {
+    fn drop(self) {
+        let Listed {
+            alloc: _alloc,
+            places: _places,
+        } = self;
+    }
 }
 
 impl<T> Model for Listed<T> {

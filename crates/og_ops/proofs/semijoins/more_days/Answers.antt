@@ -7,5 +7,4 @@ pub returns : goal.returns
 returns g c =
     let at = g.R.Instant.meaning in
     IfOk-weaker c.union.result _ _ (λ s h d r. met_one (g.M.Matching.meets c.args.matching.now d (at c.args.left.now d)) (at c.args.other.now d)
-    (holds_day s d) (holds_day c.args.found d) (holds_day c.in_ok-shared.shared d) (holds_day c.in_ok-met.met d) (holds_day c.args.days.now d)
-    (h d) (c.in_ok-shared.ensures d) (c.in_ok-met.ensures d r)) c.union.ensures
+    (holds_day s d) (holds_day c.args.found d) (holds_day c.in_ok-shared.shared d) (holds_day c.args.days.now d) (h d) (c.in_ok-shared.ensures d r)) c.union.ensures

@@ -1,11 +1,9 @@
 use Rattle.std.proofs.Common.{[], ◌∷◌, ◌||◌, take, ap, ◌∙◌, rules}
 use Rattle.std.specs.List.{list_any}
-use Rattle.std.proofs.Math.Bool.{or_assoc}
-use Rattle.og_base.specs.Ranges.{holds_day}
 use Rattle.og_rel.specs.Relations.{present}
 use Rattle.og_ops.specs.Lending.{lent}
 use Rattle.og_ops.proofs.MetLemmas.{lent_found_more}
-use Rattle.og_ops.proofs.semijoins.met_days.Goals as goal
+use Rattle.og_ops.proofs.semijoins.met_in_turn.Goals as goal
 
 pub rows-preserved : goal.rows-preserved
 rows-preserved g c d r =
@@ -15,5 +13,4 @@ rows-preserved g c d r =
     let one = list_any t (present at ((other.row.now, other.days.now) ∷ []) d) in
     c.in_ok-found.ensures d r
     ∙ ap (λ b. b || one) (c.rows.invariant d r)
-    ∙ or_assoc (holds_day c.args.found d) (list_any t (present at (lent (take c.rows.other-index c.args.rows.now)) d)) one
-    ∙ ap (λ b. holds_day c.args.found d || b) (lent_found_more at t d c.args.rows.now c.rows.other-index other (search rules) (search rules))
+    ∙ lent_found_more at t d c.args.rows.now c.rows.other-index other (search rules) (search rules)
