@@ -7,7 +7,7 @@
 //! specs/TableFile.antt. The records of bytes are those of the crate `csv` (specs/Records.antt), read one
 //! at a time over one buffer.
 //!
-//! No tests here: the calls are tested in og_file_samples.
+//! No tests here: the cases test the calls (docs/CASES.md).
 #![tactic(auto)]
 
 mod cells;

@@ -9,7 +9,7 @@
 //! is not told; it refuses every name that leaves the folder (specs/BelowFolder.antt), and reads and
 //! writes files whole (specs/WholeFiles.antt). What devices are seen as stands in specs/Devices.antt.
 //!
-//! No tests here: the adapters of readers, writers and folders are tested in og_file_samples, and the cases
+//! No tests here: the adapters of readers, writers and folders are tested in og_samples, and the cases
 //! are run over devices in memory that fail at each of their calls in turn.
 #![tactic(auto)]
 

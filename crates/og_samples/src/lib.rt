@@ -1,7 +1,7 @@
 //! Short tests of calls that no script can make: the texts and numbers of days, sets of days, the days on
 //! which something holds of points and periods, values and their cells, relations and the gluing of two rows,
-//! and spans that overlap. And the traits of rows and of joins at small types, with the proofs that these keep
-//! their laws. The tests of og_file_samples use `is_text` and `lists` too.
+//! spans that overlap, and devices: std's readers and writers, files in memory and of a folder. And the traits of rows
+//! and of joins at small types, with the proofs that these keep their laws.
 //!
 //! What a script with its output can say is a case (docs/CASES.md), and what a contract says is proved.
 #![tactic(auto)]
@@ -14,7 +14,12 @@ mod candidates;
 mod conditions;
 #[cfg(test)]
 mod days;
+#[cfg(test)]
+mod devices;
+#[cfg(test)]
+mod files;
 pub mod joins;
+#[cfg(test)]
 mod listing;
 #[cfg(test)]
 mod relations;
@@ -25,5 +30,3 @@ mod sets;
 mod texts;
 #[cfg(test)]
 mod values;
-
-pub use listing::{is_text, lists};

@@ -4,13 +4,14 @@
 //! proof. `carry_out` reads the files of cases that the words of a program name and runs them through the
 //! top call, `run` of og_session, once or in many ways: over devices in memory, of which the files note what
 //! is written to them. In many ways it also compares what `print_script` prints, and has the queries answered
-//! by plans with several workers and by the plain evaluator. The programs og_cases and og_large_cases are this
-//! call and their files.
+//! by plans with several workers and by the plain evaluator. A large `load` is also run by two workers that have to be at
+//! work at once. The program og_cases is this call and its files.
 #![tactic(auto)]
 
 mod answers;
 mod ends;
 mod failing;
+mod meeting;
 mod noted;
 mod program;
 mod queries;
@@ -19,4 +20,3 @@ mod trial;
 mod ways;
 
 pub use program::carry_out;
-pub use ways::Ways;

@@ -14,18 +14,18 @@ use std::{env, fs};
 // The exit status where a file is not read to its end.
 const UNREAD: u8 = 2;
 
+// The word behind which the files stand whose cases are run once.
+const ONCE: &str = "--once";
+
 /// Runs the cases of the files that the words of the command line name, and puts what came of them into
-/// the sink. Gives the exit status: 0 where no run failed, 1 where one did, and 2 where a file is
-/// no file of cases or something else kept them from being run.
-pub fn carry_out<R: Env + Files + Threads + Sync + AllocGlobal, K: Sink>(
-    rt: &R,
-    ways: Ways,
-    out: &mut K,
-) -> u8
+/// the sink. A case of a file that stands behind the word `--once` is run once, any other one in many ways. Gives the
+/// exit status: 0 where no run failed, 1 where one did, and 2 where a file is no file of cases or something else kept
+/// them from being run.
+pub fn carry_out<R: Env + Files + Threads + Sync + AllocGlobal, K: Sink>(rt: &R, out: &mut K) -> u8
     ensures status { result ≤ 2 }
 {
     let mut report = Report::new(rt.alloc());
-    let status = match report_of(rt, ways, &mut report) {
+    let status = match report_of(rt, &mut report) {
         Ok(status) => status,
         Err(_) => UNREAD,
     };
@@ -38,22 +38,37 @@ pub fn carry_out<R: Env + Files + Threads + Sync + AllocGlobal, K: Sink>(
 // Reads all files and runs all cases.
 fn report_of<R: Env + Files + Threads + Sync + AllocGlobal>(
     rt: &R,
-    ways: Ways,
     report: &mut Report,
 ) -> Result<u8, Refusal>
     ensures status { IfOk result (λ status. status ≤ 1) }
 {
     let mut book = Book::new(rt.alloc());
-    let Ok(args) = env::args(rt) else {
-        return Err(Refusal::NoMemory);
-    };
-    for file in args.skip(1) {
-        read_file(rt, file.as_str(), &mut book, report)?;
-    }
-    for case in &book.cases {
+    let many = read_files(rt, &mut book, report)?;
+    for (place, case) in book.cases.iter().enumerate() {
+        let ways = if place < many { Ways::All } else { Ways::Once };
         try_case(rt, case, ways, report)?;
     }
     report.end(rt.alloc())
+}
+
+// Adds the files of the words to the book, and tells how many of their cases stand before the word `--once`.
+fn read_files<R: Env + Files + AllocGlobal>(
+    rt: &R,
+    book: &mut Book,
+    report: &mut Report,
+) -> Result<usize, Refusal> {
+    let Ok(args) = env::args(rt) else {
+        return Err(Refusal::NoMemory);
+    };
+    let mut many = usize::MAX;
+    for word in args.skip(1) {
+        if word.as_str() == ONCE {
+            many = book.cases.len();
+        } else {
+            read_file(rt, word.as_str(), book, report)?;
+        }
+    }
+    Ok(many)
 }
 
 // Adds a file to the book. One that is none of cases is told of.

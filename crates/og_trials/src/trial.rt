@@ -6,7 +6,8 @@ use og_base::{NoMemory, Words};
 use og_case_files::Case;
 use og_db::Db;
 use og_io::{MemSink, MemSource};
-use og_session::run;
+use og_par::{Gate, OpenGate};
+use og_session::{run, run_gated};
 use std::alloc::Global;
 use std::thread::Threads;
 
@@ -68,6 +69,17 @@ pub fn ran<H: Threads + Sync + AllocGlobal>(
     script: &[u8],
     setting: Setting,
 ) -> Result<Outcome, NoMemory> {
+    ran_gated::<H, OpenGate>(rt, case, script, setting, None)
+}
+
+/// The same, where each worker enters the gate at each of its parts, if there is one.
+pub fn ran_gated<H: Threads + Sync + AllocGlobal, G: Gate + Sync>(
+    rt: &H,
+    case: &Case,
+    script: &[u8],
+    setting: Setting,
+    gate: Option<&G>,
+) -> Result<Outcome, NoMemory> {
     let alloc = rt.alloc();
     let words = words_of(alloc, case, setting.workers)?;
     let step = setting.step.max(1);
@@ -75,15 +87,11 @@ pub fn ran<H: Threads + Sync + AllocGlobal>(
     let mut sink = MemSink::new(alloc, setting.sink_fails);
     let mut files = NotedFiles::new(alloc, case.files.as_slice(), setting.files_fail)?;
     let mut db = Db::new(alloc);
-    let status = run(
-        rt,
-        alloc,
-        &words,
-        &mut source,
-        &mut sink,
-        &mut files,
-        &mut db,
-    );
+    let (src, out, fs) = (&mut source, &mut sink, &mut files);
+    let status = match gate {
+        None => run(rt, alloc, &words, src, out, fs, &mut db),
+        Some(gate) => run_gated(rt, alloc, &words, src, out, fs, &mut db, gate),
+    };
     Ok(Outcome {
         status,
         written: sink.written().to_vec(alloc)?,

@@ -3,6 +3,7 @@ ghost use Rattle.std.specs.Prelude.{IfOk, IfSome};
 ghost use Rattle.og_print.specs.Printed.{IsPrintable};
 
 use crate::failing::{try_files, try_sinks, try_sources};
+use crate::meeting::try_meeting;
 use crate::queries::ask_queries;
 use crate::report::Report;
 use crate::trial::{Outcome, Setting, ran};
@@ -15,9 +16,10 @@ use std::alloc::Global;
 use std::thread::Threads;
 
 /// In which ways each case is run.
-#[derive(Clone, Copy, Debug, PartialEq, Eq)]
+#[derive(Clone, Copy, Debug)]
 pub enum Ways {
-    /// Once, with devices that do not fail.
+    /// Once, with devices that do not fail, and where the words are `load` and a number once more by two workers that
+    /// have to be at work at once.
     Once,
     /// Once, and again in each way of docs/CASES.md.
     All,
@@ -34,10 +36,16 @@ pub fn try_case<H: Threads + Sync + AllocGlobal>(
     let whole = ran(rt, case, case.script.as_slice(), Setting::WHOLE)?;
     let is_well = whole.is_wanted(case);
     report.add(rt.alloc(), case, "as it stands", &whole, is_well)?;
-    if ways == Ways::Once || !is_well {
+    if !is_well {
         return Ok(());
     }
-    try_again(rt, case, &whole, report)
+    match ways {
+        Ways::Once if case.has_own_script() && case.leaves_workers() => {
+            try_meeting(rt, case, report)
+        }
+        Ways::Once => Ok(()),
+        Ways::All => try_again(rt, case, &whole, report),
+    }
 }
 
 // Runs the case again in each way, where it went well as it stands.

@@ -7,7 +7,7 @@
 //! `one_command` says that words are at most one command, and `command_or_none` that they are one or
 //! none.
 //!
-//! No tests here: the call is tested in og_file_samples.
+//! No tests here: the cases test the call (docs/CASES.md).
 #![tactic(auto)]
 
 mod command;

@@ -1,8 +1,5 @@
 //! ongq: runs a command over ongoing dates: the script of standard input, a saved file as of a day, or
 //! the command load.
-//!
-//! Of two tests of the call that `main` makes one has two workers of a run meet at a gate, and one counts the calls of
-//! a run that ends with a fault.
 #![tactic(auto)]
 
 ghost use Rattle.std.specs.Prelude.{◌≡◌, ◌++◌, OnOk, drop, map, string_bytes};
@@ -17,11 +14,6 @@ use std::env;
 use std::env::{Args, Env};
 use std::io::{Eprint, ErrorKind};
 use std::process::ExitCode;
-
-#[cfg(test)]
-mod calls;
-#[cfg(test)]
-mod gates;
 
 // The exit status where memory ran out for the words.
 const NO_MEMORY: u8 = 9;

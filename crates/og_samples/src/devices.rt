@@ -1,6 +1,6 @@
 //! Sources and sinks over readers and writers of std.
+use crate::listing::is_text;
 use og_io::{PutRefusal, Sink, Source, StdSink, StdSource};
-use og_samples::is_text;
 use std::io;
 use std::io::Write;
 

@@ -1,9 +1,9 @@
 //! Files of a real folder and in memory, and devices that fail.
+use crate::listing::is_text;
 use og_io::{
     Failed, Files, FilesRefusal, FolderFiles, Found, MemFiles, PutRefusal, Sink, Source, StdSink,
     StdSource,
 };
-use og_samples::is_text;
 use og_value::Text;
 use std::alloc::Global;
 use std::fs::{File, Permissions};
