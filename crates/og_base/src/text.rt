@@ -8,9 +8,9 @@ ghost use Rattle.og_base.specs.Calendar.{IsDayText, IsRefDayText, IsExtDay, IsRe
 
 use crate::day::{ExtDay, RefDay};
 use crate::memory::NoMemory;
-use jiff::fmt::temporal;
-use jiff::fmt::temporal::DateTimePrinter;
 use jiff_core::civil::Date;
+use jiff_fmt::temporal;
+use jiff_fmt::temporal::DateTimePrinter;
 use thiserror::Error;
 
 /// The bytes are no day text.

@@ -1,5 +1,5 @@
 -- What functions give that pass on what others gave.
-use Rattle.std.proofs.Common.{◌≡◌, Ok, Err, Result, ap, sym, subst}
+use Rattle.std.proofs.Common.{◌≡◌, Ok, Err, Result, refl, ap, sym, subst, ◌∙◌}
 use Rattle.std.specs.Result.{result_and}
 use Rattle.og_check.specs.declared.refusal.CheckRefusal.{CheckRefusal}
 use Rattle.og_check.specs.Operands.{both}
@@ -26,3 +26,22 @@ gives_and (Err reason) p x g = λ k. ap (λ z. do z; pure x) (g k)
 pub gives_and_and : {A : Type 0} (a b : Result (Unit {0}) CheckRefusal) (p q : Checked (Unit {0})) (x : A) → Gives a p → Gives b q → Gives (result_and (result_and a b) (Ok x)) (do p; q; pure x)
 gives_and_and (Ok u) b p q x g h = subst (λ z. Gives (result_and b (Ok x)) (do z; q; pure x)) (sym g) (gives_and b q x h)
 gives_and_and (Err reason) b p q x g h = λ k. ap (λ z. do z; q; pure x) (g k)
+
+-- three steps, of which the last two are taken together or the first two
+pub steps : {A B C : Type 0} (p : Checked A) (f : A → Checked B) (g : B → Checked C) → (p >>= (λ x. f x >>= g)) ≡ (p >>= f >>= g)
+steps (Ok x) f g = refl
+steps (Err reason) f g = refl
+
+-- what is made of a value after a check, where the value was given
+pub remade : {A B C : Type 0} (p : Checked A) (x : B) (f : B → C) (r : Checked B) → (do p; pure x) ≡ r → (do p; pure (f x)) ≡ (do y ← r; pure (f y))
+remade p x f r e = steps p (λ _. pure x) (λ y. pure (f y)) ∙ ap (λ q. do y ← q; pure (f y)) e
+
+-- what is made of a value and of one that is checked, where both were given as a pair
+pub paired : {A B C : Type 0} (p : Checked B) (x : A) (f : A → B → C) (r : Checked (A × B)) → (do y ← p; pure (x, y)) ≡ r → (do y ← p; pure (f x y)) ≡ (do z ← r; pure (f z.0 z.1))
+paired p x f r e = steps p (λ y. pure (x, y)) (λ z. pure (f z.0 z.1)) ∙ ap (λ q. do z ← q; pure (f z.0 z.1)) e
+
+-- the same after a check
+pub paired_after : {A B C : Type 0} (c : Checked (Unit {0})) (p : Checked B) (x : A) (f : A → B → C) (r : Checked (A × B)) → (do c; y ← p; pure (x, y)) ≡ r
+    → (do c; y ← p; pure (f x y)) ≡ (do z ← r; pure (f z.0 z.1))
+paired_after (Ok u) p x f r e = paired p x f r e
+paired_after (Err reason) p x f r e = ap (λ q. do z ← q; pure (f z.0 z.1)) e

@@ -1,4 +1,5 @@
 pub mod CoreFits
+pub mod CoreSteps
 pub mod ExpressionFits
 pub mod ExpressionRules
 pub mod FaultLemmas
@@ -11,4 +12,5 @@ pub mod Parts
 pub mod SightFits
 pub mod StarLemmas
 pub mod StatementFits
+pub mod StatementSteps
 pub mod StepLemmas

@@ -6,7 +6,7 @@
 //! is one list for all workers and gates (`one_list_for_all_workers`). A gate is told of each chunk
 //! of items and proves nothing. `par_handed` hands each item over to a worker, which may take it apart.
 //!
-//! The three tests, in src/phase.rt, show the order of the items, and what no clause says: that a phase runs
+//! No tests here: three of og_samples show the order of the items, and what no clause says: that a phase runs
 //! in more than one thread, and that its gate is told of each chunk once, and of no more chunks.
 #![tactic(auto)]
 

@@ -1,4 +1,5 @@
 pub mod KeyLemmas
+pub mod LoopLemmas
 pub mod MeaningCores
 pub mod MeaningHeld
 pub mod MeaningHomes

@@ -1,6 +1,7 @@
 //! The plan of a query: a function of its text alone.
 ghost use Rattle.std.specs.Prelude.{◌≡◌, ◌++◌, ◌+◌, ◌≤◌, ℤ, true, IfOk, OnOk, length, map};
 ghost use Rattle.std.specs.List.{flat_map};
+ghost use Rattle.og_query.specs.Fits.{core_kinds};
 ghost use Rattle.og_query.specs.Kinds.{kinds_of};
 ghost use Rattle.og_query.specs.Queries.{Named, ordinary_query};
 ghost use Rattle.og_query.specs.Sizes.{Sizes, query_size};
@@ -10,6 +11,7 @@ ghost use Rattle.og_plan.specs.Shapes.{is_sound, scans_of};
 ghost use Rattle.og_plan.specs.Premises.{AreInRange, AllHaveFitRows, query_tables};
 ghost use Rattle.og_plan.specs.Joins as joins;
 ghost use Rattle.og_plan.specs.Homes as homes;
+ghost use Rattle.og_plan.specs.Parts as of_parts;
 ghost use Rattle.og_plan.specs.PlanOf as spec;
 ghost use Rattle.og_plan.specs.PlanOf.{HaveTables};
 ghost use Rattle.og_plan.specs.declared.plan.Home.TheVariants as home;
@@ -20,7 +22,7 @@ use crate::joins::{filtered, joined_by};
 use crate::parts::{all_from, parts_of};
 use crate::plan::{Home, Plan, PlanSemi};
 use og_base::NoMemory;
-use og_query::{Cond, Core, Expr, From1, Query, Semi, copy_expressions};
+use og_query::{Cond, Core, Expr, From1, Query, Rest, Semi, copy_expressions};
 use og_value::{Kind, Schema};
 use sqlite_items::{Boxed, Items};
 use std::alloc::Global;
@@ -68,11 +70,28 @@ fn leaf_of(
 ) -> Result<Plan, NoMemory>
     ensures { IfOk result (λ p. p ≡ spec.leaf_of widths.now parts.now k start table.now) }
 {
-    let here = parts_at(alloc, widths, Home::Leaf(k), parts)?;
-    let below = all_from(alloc, start, &here)?;
-    let name = table.name.copy()?;
-    let schema = table.schema.copy()?;
+    let below = all_from(
+        alloc,
+        start,
+        &parts_at(alloc, widths, Home::Leaf(k), parts)?,
+    )?;
+    let From1 { name, schema } = table.copy()?;
     filtered(alloc, Plan::Scan { name, schema }, below)
+}
+
+// Leaf k, in a box.
+fn boxed_leaf(
+    alloc: Global,
+    widths: &[usize],
+    parts: &[Cond],
+    k: usize,
+    start: usize,
+    table: &From1,
+) -> Result<Boxed<Plan>, NoMemory>
+    ensures { IfOk result (λ p. p ≡ spec.leaf_of widths.now parts.now k start table.now) }
+{
+    let leaf = leaf_of(alloc, widths, parts, k, start, table)?;
+    Ok(Boxed::new(alloc, leaf)?)
 }
 
 // The tree of the items before item k, joined with leaf k.
@@ -89,7 +108,7 @@ fn joined_with(
     ensures { IfOk result (λ p. p ≡ joins.joined_by kinds.now start tree (spec.leaf_of widths.now parts.now k start table.now) (homes.parts_at widths.now (home.Join k) parts.now)) }
 {
     let left = Boxed::new(alloc, tree)?;
-    let right = Boxed::new(alloc, leaf_of(alloc, widths, parts, k, start, table)?)?;
+    let right = boxed_leaf(alloc, widths, parts, k, start, table)?;
     let here = parts_at(alloc, widths, Home::Join(k), parts)?;
     joined_by(alloc, kinds, start, left, right, here)
 }
@@ -161,25 +180,47 @@ fn projected(alloc: Global, tree: Plan, items: &Items<Expr>) -> Result<Plan, NoM
     })
 }
 
-// A core: its tree, under one node with its semis, under the projection to its items.
-fn core_plan(alloc: Global, core: &Core) -> Result<Plan, NoMemory>
+// The tree of the items of a core.
+fn core_tree(alloc: Global, core: &Core) -> Result<Plan, NoMemory>
     requires { 1 ≤ length core.now.tables }
-    ensures { IfOk result (λ p. p ≡ spec.core_plan core.now) }
+    ensures { IfOk result (λ p. p ≡ spec.tree_of (core_kinds core.now) (spec.widths_of core.now.tables) (of_parts.parts_of core.now.cond) core.now.tables) }
 {
     let tables = core.tables.as_slice();
     let kinds = kinds_in(alloc, tables)?;
     let widths = widths_of(alloc, tables)?;
     let parts = parts_of(alloc, &core.cond)?;
-    let semis = semi_plans(alloc, core.semis.as_slice())?;
-    let tree = tree_of(
+    tree_of(
         alloc,
         kinds.as_slice(),
         widths.as_slice(),
         parts.as_slice(),
         tables,
-    )?;
+    )
+}
+
+// A core: its tree, under one node with its semis, under the projection to its items.
+fn core_plan(alloc: Global, core: &Core) -> Result<Plan, NoMemory>
+    requires { 1 ≤ length core.now.tables }
+    ensures { IfOk result (λ p. p ≡ spec.core_plan core.now) }
+{
+    let semis = semi_plans(alloc, core.semis.as_slice())?;
+    let tree = core_tree(alloc, core)?;
     let under = sifted(alloc, tree, semis)?;
     projected(alloc, under, &core.items)
+}
+
+// The plan, combined with that of a further core.
+fn combined(alloc: Global, plan: Plan, rest: &Rest) -> Result<Plan, NoMemory>
+    requires { 1 ≤ length rest.now.core.tables }
+    ensures { IfOk result (λ p. p ≡ plans.Combine rest.now.op plan (spec.core_plan rest.now.core)) }
+{
+    let left = Boxed::new(alloc, plan)?;
+    let right = Boxed::new(alloc, core_plan(alloc, &rest.core)?)?;
+    Ok(Plan::Combine {
+        op: rest.op,
+        left,
+        right,
+    })
 }
 
 /// The plan of the query, by its text alone (docs/LANGUAGE.md, "Plans"). Refused only for want of
@@ -195,13 +236,7 @@ pub fn plan_of(alloc: Global, query: &Query) -> Result<Plan, NoMemory>
 {
     let mut plan = core_plan(alloc, &query.first)?;
     'rests: for rest in query.rest.as_slice() {
-        let left = Boxed::new(alloc, plan)?;
-        let right = Boxed::new(alloc, core_plan(alloc, &rest.core)?)?;
-        plan = Plan::Combine {
-            op: rest.op,
-            left,
-            right,
-        };
+        plan = combined(alloc, plan, rest)?;
     }
     Ok(plan)
 }

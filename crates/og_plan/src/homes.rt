@@ -4,6 +4,7 @@ ghost use Rattle.std.specs.List.{list_all};
 ghost use Rattle.og_plan.specs.Homes as spec;
 ghost use Rattle.og_plan.specs.Parts as parts;
 
+use crate::parts::add_copy;
 use crate::places::places_of;
 use crate::plan::Home;
 use og_base::NoMemory;
@@ -104,7 +105,7 @@ pub(crate) fn parts_at(
     let mut here = Items::new(alloc);
     'parts: for part in parts {
         if same_home(home_of(alloc, widths, part)?, home) {
-            here.push(part.copy(alloc)?)?;
+            add_copy(alloc, part, &mut here)?;
         }
     }
     Ok(here)

@@ -4,6 +4,7 @@ ghost use Rattle.std.specs.List.{flat_map};
 ghost use Rattle.std.specs.Option.{is_some};
 ghost use Rattle.og_plan.specs.Joins as spec;
 
+use crate::parts::add_copy;
 use crate::places::column_of;
 use crate::plan::{ColPair, Plan};
 use og_base::NoMemory;
@@ -122,7 +123,7 @@ fn without_keys(
     let mut rest = Items::new(alloc);
     'parts: for part in parts.as_slice() {
         if key_of(kinds, start, part).is_none() {
-            rest.push(part.copy(alloc)?)?;
+            add_copy(alloc, part, &mut rest)?;
         }
     }
     Ok(rest)

@@ -1,6 +1,7 @@
 //! The parts of conditions, and conditions whose places are counted from a later one.
-ghost use Rattle.std.specs.Prelude.{◌≡◌, ◌∷◌, [], IfOk, map};
+ghost use Rattle.std.specs.Prelude.{◌≡◌, ◌++◌, ◌∷◌, [], IfOk, OnOk, map};
 ghost use Rattle.std.specs.List.{flat_map};
+ghost use Rattle.og_query.specs.declared.condition.Cond.TheVariants as conditions;
 ghost use Rattle.og_plan.specs.Parts as spec;
 
 use og_base::NoMemory;
@@ -36,8 +37,16 @@ fn one_part(alloc: Global, cond: &Cond) -> Result<Items<Cond>, NoMemory>
     ensures { IfOk result (λ parts. parts ≡ cond.now ∷ []) }
 {
     let mut parts = Items::new(alloc);
-    parts.push(cond.copy(alloc)?)?;
+    add_copy(alloc, cond, &mut parts)?;
     Ok(parts)
+}
+
+// Appends a copy of the condition.
+pub(crate) fn add_copy(alloc: Global, cond: &Cond, parts: &mut Items<Cond>) -> Result<(), NoMemory>
+    ensures { OnOk result (parts.new ≡ parts.old ++ cond.now ∷ []) }
+{
+    parts.push(cond.copy(alloc)?)?;
+    Ok(())
 }
 
 // The expression with its places counted from that one.
@@ -67,6 +76,27 @@ fn exprs_from(alloc: Global, start: usize, exprs: &Items<Expr>) -> Result<Items<
     Ok(moved)
 }
 
+// Two expressions with their places counted from that one.
+fn pair_from(
+    alloc: Global,
+    start: usize,
+    left: &Expr,
+    right: &Expr,
+) -> Result<(Expr, Expr), NoMemory>
+    ensures { IfOk result (λ pair. (pair.0 ≡ spec.expr_from start left.now) × (pair.1 ≡ spec.expr_from start right.now)) }
+{
+    let left = expr_from(alloc, start, left)?;
+    let right = expr_from(alloc, start, right)?;
+    Ok((left, right))
+}
+
+// The negation of the condition.
+fn negated(alloc: Global, cond: Cond) -> Result<Cond, NoMemory>
+    ensures { IfOk result (λ c. c ≡ conditions.Not cond) }
+{
+    Ok(Cond::Not(Boxed::new(alloc, cond)?))
+}
+
 // The condition with its places counted from that one.
 #[cycle(cond_from)]
 fn cond_from(alloc: Global, start: usize, cond: &Cond) -> Result<Cond, NoMemory>
@@ -75,25 +105,22 @@ fn cond_from(alloc: Global, start: usize, cond: &Cond) -> Result<Cond, NoMemory>
     match cond {
         Cond::And(conds) => Ok(Cond::And(all_from(alloc, start, conds)?)),
         Cond::Or(conds) => Ok(Cond::Or(all_from(alloc, start, conds)?)),
-        Cond::Not(one) => {
-            let moved = cond_from(alloc, start, one.get())?;
-            Ok(Cond::Not(Boxed::new(alloc, moved)?))
+        Cond::Not(one) => negated(alloc, cond_from(alloc, start, one.get())?),
+        Cond::Compare { op, left, right } => {
+            let (left, right) = pair_from(alloc, start, left, right)?;
+            let op = *op;
+            Ok(Cond::Compare { op, left, right })
         }
-        Cond::Compare { op, left, right } => Ok(Cond::Compare {
-            op: *op,
-            left: expr_from(alloc, start, left)?,
-            right: expr_from(alloc, start, right)?,
-        }),
-        Cond::Relate { pred, left, right } => Ok(Cond::Relate {
-            pred: *pred,
-            left: expr_from(alloc, start, left)?,
-            right: expr_from(alloc, start, right)?,
-        }),
+        Cond::Relate { pred, left, right } => {
+            let (left, right) = pair_from(alloc, start, left, right)?;
+            let pred = *pred;
+            Ok(Cond::Relate { pred, left, right })
+        }
         Cond::Empty(period) => Ok(Cond::Empty(expr_from(alloc, start, period)?)),
-        Cond::Contains(period, day) => Ok(Cond::Contains(
-            expr_from(alloc, start, period)?,
-            expr_from(alloc, start, day)?,
-        )),
+        Cond::Contains(period, day) => {
+            let (period, day) = pair_from(alloc, start, period, day)?;
+            Ok(Cond::Contains(period, day))
+        }
     }
 }
 

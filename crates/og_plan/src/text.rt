@@ -1,13 +1,13 @@
 //! The text of a plan: its lines, those of a node before those of its inputs, two spaces for each
 //! level.
-ghost use Rattle.std.specs.Prelude.{◌≡◌, ◌++◌, ◌+◌, ◌∷◌, [], IfOk, OnOk, length, map, reverse};
+ghost use Rattle.std.specs.Prelude.{◌≡◌, ◌++◌, ◌+◌, ◌∷◌, [], ℕ, List, IfOk, OnOk, length, map, reverse};
 ghost use Rattle.std.specs.List.{flat_map};
 ghost use Rattle.og_plan.specs.Text as spec;
 ghost use Rattle.og_plan.specs.Text.{line_text, lines_from, plan_text};
 ghost use Rattle.og_plan.specs.Words.{semi_words, words_of};
 
 use crate::plan::{Plan, PlanSemi};
-use crate::words::{combine_word, counted, key_words, overlap_words, scan_words, semi_words};
+use crate::words::{combine_word, counted, key_words, overlap_words, scan_words, semi_words, word};
 use og_base::NoMemory;
 use std::alloc::Global;
 
@@ -50,12 +50,18 @@ impl PlanLine {
     }
 }
 
-// Adds a line, and gives the level below it. The lines are in memory, and so never past the numbers
-// that count them.
-fn add_line(level: usize, words: Vec<u8>, lines: &mut Vec<PlanLine>) -> Result<usize, NoMemory>
+// Adds a line of the words, where they were made, and gives the level below it. The lines are in memory,
+// and so never past the numbers that count them.
+fn add_line(
+    level: usize,
+    made: Result<Vec<u8>, NoMemory>,
+    lines: &mut Vec<PlanLine>,
+) -> Result<usize, NoMemory>
     ensures level { IfOk result (λ next. next ≡ level + 1) }
-    ensures lines { OnOk result (flat_map line_text lines.new.items ≡ flat_map line_text lines.old.items ++ lines_from level (words.items ∷ [])) }
+    ensures lines { (text : List ℕ) → IfOk made (λ words. words.items ≡ text) →
+        OnOk result (flat_map line_text lines.new.items ≡ flat_map line_text lines.old.items ++ lines_from level (text ∷ [])) }
 {
+    let words = made?;
     lines.push(PlanLine { level, words })?;
     level.checked_add(1).ok_or(NoMemory)
 }
@@ -73,7 +79,7 @@ fn add_semis(
 {
     let mut next = level;
     'semis: for k in (0..semis.len()).rev() {
-        next = add_line(next, semi_words(alloc, &semis[k])?, lines)?;
+        next = add_line(next, semi_words(alloc, &semis[k]), lines)?;
     }
     Ok(next)
 }
@@ -89,27 +95,21 @@ fn add_node(
     ensures lines { OnOk result (flat_map line_text lines.new.items ≡ flat_map line_text lines.old.items ++ lines_from level (words_of plan.now)) }
 {
     match plan {
-        Plan::Scan { name, .. } => add_line(level, scan_words(alloc, name)?, lines),
+        Plan::Scan { name, .. } => add_line(level, scan_words(alloc, name), lines),
         Plan::Filter { parts, .. } => {
-            add_line(level, counted(alloc, b"filter ", parts.len())?, lines)
+            add_line(level, counted(alloc, b"filter ", parts.len()), lines)
         }
-        Plan::Product { .. } => add_line(level, Vec::from_slice(alloc, b"product")?, lines),
+        Plan::Product { .. } => add_line(level, word(alloc, b"product"), lines),
         Plan::KeyJoin { pairs, rest, .. } => {
-            add_line(
-                level,
-                key_words(alloc, pairs.as_slice(), rest.len())?,
-                lines,
-            )
+            add_line(level, key_words(alloc, pairs.as_slice(), rest.len()), lines)
         }
         Plan::OverlapJoin { pair, rest, .. } => {
-            add_line(level, overlap_words(alloc, *pair, rest.len())?, lines)
+            add_line(level, overlap_words(alloc, *pair, rest.len()), lines)
         }
         Plan::Project { items, .. } => {
-            add_line(level, counted(alloc, b"project ", items.len())?, lines)
+            add_line(level, counted(alloc, b"project ", items.len()), lines)
         }
-        Plan::Combine { op, .. } => {
-            add_line(level, Vec::from_slice(alloc, combine_word(*op))?, lines)
-        }
+        Plan::Combine { op, .. } => add_line(level, word(alloc, combine_word(*op)), lines),
         Plan::Semis { semis, .. } => add_semis(alloc, semis.as_slice(), level, lines),
     }
 }
@@ -149,6 +149,17 @@ pub fn plan_lines(alloc: Global, plan: &Plan) -> Result<Vec<PlanLine>, NoMemory>
     Ok(lines)
 }
 
+// The texts of the lines, one after the other.
+fn text_of(alloc: Global, lines: &[PlanLine]) -> Result<Vec<u8>, NoMemory>
+    ensures { IfOk result (λ v. v.items ≡ flat_map line_text lines.now) }
+{
+    let mut text = Vec::new(alloc);
+    'lines: for line in lines {
+        line.write(&mut text)?;
+    }
+    Ok(text)
+}
+
 /// The text of the plan: a line for each node, the node before its inputs, the left input before the
 /// right, two spaces for each level, and in place of one line for semis a line for each of them, the
 /// last first (docs/LANGUAGE.md, "Plans"). Refused only for want of memory.
@@ -156,9 +167,5 @@ pub fn explain(alloc: Global, plan: &Plan) -> Result<Vec<u8>, NoMemory>
     ensures { IfOk result (λ v. v.items ≡ plan_text plan.now) }
 {
     let lines = plan_lines(alloc, plan)?;
-    let mut text = Vec::new(alloc);
-    'lines: for line in lines.as_slice() {
-        line.write(&mut text)?;
-    }
-    Ok(text)
+    text_of(alloc, lines.as_slice())
 }

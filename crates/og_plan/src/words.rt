@@ -78,6 +78,13 @@ pub(crate) fn scan_words(alloc: Global, name: &Name) -> Result<Vec<u8>, NoMemory
     Ok(words)
 }
 
+// A word alone.
+pub(crate) fn word(alloc: Global, bytes: &[u8]) -> Result<Vec<u8>, NoMemory>
+    ensures { IfOk result (λ words. words.items ≡ bytes.now) }
+{
+    Ok(Vec::from_slice(alloc, bytes)?)
+}
+
 // A word and a number after it.
 pub(crate) fn counted(alloc: Global, word: &[u8], count: usize) -> Result<Vec<u8>, NoMemory>
     ensures { IfOk result (λ words. words.items ≡ word.now ++ decimal count) }

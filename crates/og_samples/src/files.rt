@@ -9,37 +9,57 @@ use std::alloc::Global;
 use std::fs::{File, Permissions};
 use std::io::{ErrorKind, Read, Write};
 use std::os::unix::fs::PermissionsExt;
-use std::process::Abort;
 use std::{fs, io};
 
-// The name of a file.
-fn name<H: AllocGlobal + Abort>(rt: &H, text: &str) -> Text {
-    Text::of(rt.alloc(), text.as_bytes()).expect(rt, text)
-}
-
 // Whether the file is read, and has the bytes of the text.
-fn reads<F: Files>(files: &mut F, name: &Text, text: &str) -> bool {
-    files.read(name) == Ok(Found::Present) && is_text(files.bytes(), text)
+fn reads<F: Files>(alloc: Global, files: &mut F, name: &str, text: &str) -> bool {
+    let Ok(name) = Text::of(alloc, name.as_bytes()) else {
+        return false;
+    };
+    files.read(&name) == Ok(Found::Present) && is_text(files.bytes(), text)
 }
 
 // Whether there is no such file, and nothing is handed out.
-fn lacks<F: Files>(files: &mut F, name: &Text) -> bool {
-    files.read(name) == Ok(Found::Absent) && files.bytes().is_empty()
+fn lacks<F: Files>(alloc: Global, files: &mut F, name: &str) -> bool {
+    let Ok(name) = Text::of(alloc, name.as_bytes()) else {
+        return false;
+    };
+    files.read(&name) == Ok(Found::Absent) && files.bytes().is_empty()
 }
 
 // Whether reading the file fails, and nothing is handed out.
-fn fails<F: Files>(files: &mut F, name: &Text) -> bool {
-    files.read(name) == Err(FilesRefusal::Failed) && files.bytes().is_empty()
+fn fails<F: Files>(alloc: Global, files: &mut F, name: &str) -> bool {
+    let Ok(name) = Text::of(alloc, name.as_bytes()) else {
+        return false;
+    };
+    files.read(&name) == Err(FilesRefusal::Failed) && files.bytes().is_empty()
+}
+
+// What comes of writing the file; nothing where there is no memory for its name.
+fn written<F: Files>(
+    alloc: Global,
+    files: &mut F,
+    name: &str,
+    text: &str,
+) -> Option<Result<(), FilesRefusal>> {
+    let name = Text::of(alloc, name.as_bytes()).ok()?;
+    Some(files.write(&name, text.as_bytes()))
 }
 
 // Whether the file is written, and then read so.
-fn writes<F: Files>(files: &mut F, name: &Text, text: &str) -> bool {
-    files.write(name, text.as_bytes()) == Ok(()) && reads(files, name, text)
+fn writes<F: Files>(alloc: Global, files: &mut F, name: &str, text: &str) -> bool {
+    written(alloc, files, name, text) == Some(Ok(())) && reads(alloc, files, name, text)
 }
 
-// Whether writing the file fails.
-fn refuses<F: Files>(files: &mut F, name: &Text) -> bool {
-    files.write(name, b"x") == Err(FilesRefusal::Failed)
+// Whether reading and writing the file fail.
+fn refuses<F: Files>(alloc: Global, files: &mut F, name: &str) -> bool {
+    fails(alloc, files, name) && written(alloc, files, name, "x") == Some(Err(FilesRefusal::Failed))
+}
+
+// Whether the system has made the folder anew.
+fn has_folder<H: fs::Files + AllocGlobal>(rt: &H, path: &str) -> bool {
+    let _ = fs::remove_dir_all(rt, path);
+    fs::create_dir(rt, path).is_ok()
 }
 
 // Whether the system has the file, with the bytes of the text.
@@ -50,41 +70,87 @@ fn is_there<H: fs::Files + AllocGlobal>(rt: &H, path: &str, text: &str) -> bool 
     }
 }
 
+// Whether the system has nothing of that name.
+fn is_absent<H: fs::Files>(rt: &H, path: &str) -> bool {
+    fs::exists(rt, path).ok() == Some(false)
+}
+
+// Whether the system has the file, with the bytes of the text, and not the other one.
+fn is_all_there<H: fs::Files + AllocGlobal>(rt: &H, path: &str, text: &str, other: &str) -> bool {
+    is_there(rt, path, text) && is_absent(rt, other)
+}
+
 // Whether the file cannot be read while nobody has the right, unless the system lets this run read it.
-fn needs_the_right<H: fs::Files>(rt: &H, files: &mut FolderFiles<'_, H>, name: &Text) -> bool {
-    let closed = fs::set_permissions(rt, name.as_str(), Permissions::from_mode(0)).is_ok();
-    let failed = File::open(rt, name.as_str()).is_ok() || fails(files, name);
-    closed && failed
+fn needs_the_right<H: fs::Files + AllocGlobal>(rt: &H, name: &str) -> bool {
+    let closed = fs::set_permissions(rt, name, Permissions::from_mode(0)).is_ok();
+    if File::open(rt, name).is_ok() {
+        return closed;
+    }
+    let mut files = FolderFiles::new(rt, rt.alloc());
+    closed && fails(rt.alloc(), &mut files, name)
 }
 
 #[test]
 fn a_folder_has_files_by_their_names(rt: HostRuntime) {
-    let _ = fs::remove_dir_all(&rt, "og_samples_files");
-    assert!(rt; fs::create_dir(&rt, "og_samples_files").is_ok());
-    assert!(rt; fs::create_dir(&rt, "og_samples_files/folder").is_ok());
+    assert!(rt; has_folder(&rt, "og_samples_files"));
     assert!(rt; fs::write(&rt, "og_samples_files/old", "old").is_ok());
-    let old = name(&rt, "og_samples_files/old");
-    let new = name(&rt, "og_samples_files/new");
     let mut files = FolderFiles::new(&rt, rt.alloc());
-    assert!(rt; reads(&mut files, &old, "old") && lacks(&mut files, &new));
-    assert!(rt; writes(&mut files, &new, "") && writes(&mut files, &new, "longer"));
-    assert!(rt; writes(&mut files, &old, "o") && is_there(&rt, "og_samples_files/old", "o"));
-    assert!(rt; is_there(&rt, "og_samples_files/new", "longer"));
-    let folder = name(&rt, "og_samples_files/folder");
-    assert!(rt; fails(&mut files, &folder) && refuses(&mut files, &folder));
-    let lost = name(&rt, "og_samples_files/none/new");
-    assert!(rt; lacks(&mut files, &lost) && refuses(&mut files, &lost));
-    assert!(rt; needs_the_right(&rt, &mut files, &old));
-    assert!(rt; fs::exists(&rt, "og_samples_files/.ongq-0").ok() == Some(false));
+    assert!(rt; reads(rt.alloc(), &mut files, "og_samples_files/old", "old"));
+    assert!(rt; lacks(rt.alloc(), &mut files, "og_samples_files/new"));
     assert!(rt; fs::remove_dir_all(&rt, "og_samples_files").is_ok());
+}
+
+#[test]
+fn a_file_is_written_over_one_of_its_name(rt: HostRuntime) {
+    assert!(rt; has_folder(&rt, "og_samples_written"));
+    let mut files = FolderFiles::new(&rt, rt.alloc());
+    for text in &["", "longer", "o"] {
+        assert!(rt;
+            writes(rt.alloc(), &mut files, "og_samples_written/new", text),
+            "{text}"
+        );
+    }
+    assert!(rt;
+        is_all_there(
+            &rt,
+            "og_samples_written/new",
+            "o",
+            "og_samples_written/.ongq-0"
+        )
+    );
+    assert!(rt; fs::remove_dir_all(&rt, "og_samples_written").is_ok());
+}
+
+#[test]
+fn a_file_that_may_not_be_read_is_a_fault(rt: HostRuntime) {
+    assert!(rt; has_folder(&rt, "og_samples_closed"));
+    assert!(rt; fs::write(&rt, "og_samples_closed/old", "old").is_ok());
+    assert!(rt; needs_the_right(&rt, "og_samples_closed/old"));
+    assert!(rt; fs::remove_dir_all(&rt, "og_samples_closed").is_ok());
+}
+
+#[test]
+fn a_folder_is_no_file(rt: HostRuntime) {
+    assert!(rt; has_folder(&rt, "og_samples_folder"));
+    let mut files = FolderFiles::new(&rt, rt.alloc());
+    assert!(rt; refuses(rt.alloc(), &mut files, "og_samples_folder"));
+    assert!(rt; fs::remove_dir_all(&rt, "og_samples_folder").is_ok());
+}
+
+#[test]
+fn a_missing_folder_lacks_files_and_takes_none(rt: HostRuntime) {
+    let mut files = FolderFiles::new(&rt, rt.alloc());
+    let lost = "og_samples_none/new";
+    assert!(rt; lacks(rt.alloc(), &mut files, lost));
+    assert!(rt; written(rt.alloc(), &mut files, lost, "x") == Some(Err(FilesRefusal::Failed)));
 }
 
 // None of these names is tried that would harm the system where it were written.
 #[test]
 fn a_name_that_leaves_the_folder_is_a_fault(rt: HostRuntime) {
     let mut files = FolderFiles::new(&rt, rt.alloc());
-    assert!(rt; fails(&mut files, &name(&rt, "/etc/passwd")));
-    for text in &[
+    assert!(rt; fails(rt.alloc(), &mut files, "/etc/passwd"));
+    for name in &[
         "",
         ".",
         "..",
@@ -101,77 +167,99 @@ fn a_name_that_leaves_the_folder_is_a_fault(rt: HostRuntime) {
         "og_samples_outside\0",
         "\0",
     ] {
-        let path = name(&rt, text);
-        assert!(rt;
-            fails(&mut files, &path) && refuses(&mut files, &path),
-            "{text:?}"
-        );
+        assert!(rt; refuses(rt.alloc(), &mut files, name), "{name:?}");
     }
-    for path in &[
-        "og_samples_outside",
-        "../og_samples_outside",
-        "/og_samples_outside",
-    ] {
-        assert!(rt; fs::exists(&rt, *path).ok() == Some(false), "{path}");
-    }
+    assert!(rt; is_absent(&rt, "og_samples_outside"));
+    assert!(rt; is_absent(&rt, "../og_samples_outside") && is_absent(&rt, "/og_samples_outside"));
 }
 
 // Whether the file in memory has the bytes of the text, or is absent where there is none.
-fn is_file(files: &MemFiles, name: &Text, text: Option<&str>) -> bool {
-    match (files.file(name), text) {
+fn is_file(alloc: Global, files: &MemFiles, name: &str, text: Option<&str>) -> bool {
+    let Ok(name) = Text::of(alloc, name.as_bytes()) else {
+        return false;
+    };
+    match (files.file(&name), text) {
         (Some(bytes), Some(text)) => is_text(bytes, text),
         (None, None) => true,
         _ => false,
     }
 }
 
-#[test]
-fn files_in_memory_are_read_and_written(rt: HostRuntime) {
-    let old = name(&rt, "a");
-    let new = name(&rt, "../b");
-    let mut files = MemFiles::new(rt.alloc(), None);
-    assert!(rt; files.put_file(&old, b"old").is_ok() && files.calls() == 0);
-    assert!(rt; files.bytes().is_empty() && reads(&mut files, &old, "old") && files.calls() == 1);
-    assert!(rt; files.write(&new, b"new") == Ok(()) && is_text(files.bytes(), "old"));
-    assert!(rt; is_file(&files, &old, Some("old")) && is_file(&files, &new, Some("new")));
-    assert!(rt; lacks(&mut files, &name(&rt, "c")) && is_file(&files, &name(&rt, "c"), None));
-    assert!(rt; writes(&mut files, &old, "") && files.calls() == 5);
-    assert!(rt; files.put_file(&old, b"again").is_ok() && is_file(&files, &old, Some("again")));
+// Whether the file is put into memory.
+fn is_put(alloc: Global, files: &mut MemFiles, name: &str, text: &str) -> bool {
+    let Ok(name) = Text::of(alloc, name.as_bytes()) else {
+        return false;
+    };
+    files.put_file(&name, text.as_bytes()).is_ok()
 }
 
-// Whether of two reads and two writes just the one with this number fails and changes no file.
-fn fails_at(alloc: Global, a: &Text, b: &Text, number: u64) -> bool {
-    let mut files = MemFiles::new(alloc, Some(number));
-    if files.put_file(a, b"old").is_err() {
-        return false;
-    }
-    let faults = (
-        files.read(a).is_err(),
-        files.write(a, b"new").is_err(),
-        files.read(b).is_err(),
-        files.write(b, b"new").is_err(),
+#[test]
+fn files_in_memory_are_read(rt: HostRuntime) {
+    let mut files = MemFiles::new(rt.alloc(), None);
+    assert!(rt; is_put(rt.alloc(), &mut files, "a", "old") && files.calls() == 0);
+    assert!(rt; files.bytes().is_empty());
+    assert!(rt; reads(rt.alloc(), &mut files, "a", "old") && files.calls() == 1);
+    assert!(rt; lacks(rt.alloc(), &mut files, "g.csv") && files.calls() == 2);
+    assert!(rt; is_file(rt.alloc(), &files, "g.csv", None));
+}
+
+#[test]
+fn files_in_memory_are_written(rt: HostRuntime) {
+    let mut files = MemFiles::new(rt.alloc(), None);
+    assert!(rt;
+        is_put(rt.alloc(), &mut files, "a", "old") && reads(rt.alloc(), &mut files, "a", "old")
     );
-    faults == (number == 1, number == 2, number == 3, number == 4)
-        && is_file(&files, a, Some(if number == 2 { "old" } else { "new" }))
-        && is_file(&files, b, if number == 4 { None } else { Some("new") })
-        && files.calls() == 4
+    assert!(rt;
+        written(rt.alloc(), &mut files, "../b", "new") == Some(Ok(()))
+            && is_text(files.bytes(), "old")
+    );
+    assert!(rt;
+        is_file(rt.alloc(), &files, "a", Some("old"))
+            && is_file(rt.alloc(), &files, "../b", Some("new"))
+    );
+    assert!(rt; writes(rt.alloc(), &mut files, "a", "") && files.calls() == 4);
+    assert!(rt;
+        is_put(rt.alloc(), &mut files, "a", "again")
+            && is_file(rt.alloc(), &files, "a", Some("again"))
+    );
+}
+
+// Whether of a read and a write of each of two files just the one with this number fails.
+fn one_fails(alloc: Global, files: &mut MemFiles, number: u64) -> bool {
+    let faults = (
+        !reads(alloc, files, "a", "old"),
+        written(alloc, files, "a", "new") != Some(Ok(())),
+        !lacks(alloc, files, "b"),
+        written(alloc, files, "b", "new") != Some(Ok(())),
+    );
+    faults == (number == 1, number == 2, number == 3, number == 4) && files.calls() == 4
+}
+
+// Whether just the call with this number fails, and changes no file.
+fn fails_at(alloc: Global, number: u64) -> bool {
+    let mut files = MemFiles::new(alloc, Some(number));
+    let a = if number == 2 { "old" } else { "new" };
+    let b = if number == 4 { None } else { Some("new") };
+    is_put(alloc, &mut files, "a", "old")
+        && one_fails(alloc, &mut files, number)
+        && is_file(alloc, &files, "a", Some(a))
+        && is_file(alloc, &files, "b", b)
 }
 
 #[test]
 fn one_call_of_files_in_memory_fails(rt: HostRuntime) {
-    let (a, b) = (name(&rt, "a"), name(&rt, "b"));
     for number in 0..6u64 {
-        assert!(rt; fails_at(rt.alloc(), &a, &b, number), "{number}");
+        assert!(rt; fails_at(rt.alloc(), number), "{number}");
     }
-    let mut files = MemFiles::new(rt.alloc(), Some(2));
-    assert!(rt; files.put_file(&a, b"old").is_ok() && reads(&mut files, &a, "old"));
-    assert!(rt; fails(&mut files, &a) && reads(&mut files, &a, "old"));
 }
 
 #[test]
-fn a_missing_file_costs_one_call(rt: HostRuntime) {
-    let mut files = MemFiles::new(rt.alloc(), None);
-    assert!(rt; lacks(&mut files, &name(&rt, "g.csv")) && files.calls() == 1);
+fn a_file_in_memory_is_read_after_a_call_that_failed(rt: HostRuntime) {
+    let mut files = MemFiles::new(rt.alloc(), Some(2));
+    assert!(rt;
+        is_put(rt.alloc(), &mut files, "a", "old") && reads(rt.alloc(), &mut files, "a", "old")
+    );
+    assert!(rt; fails(rt.alloc(), &mut files, "a") && reads(rt.alloc(), &mut files, "a", "old"));
 }
 
 // A reader that gives a byte, and a writer that takes all. The second call of each fails.

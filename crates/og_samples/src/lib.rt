@@ -1,7 +1,7 @@
 //! Short tests of calls that no script can make: the texts and numbers of days, sets of days, the days on
 //! which something holds of points and periods, values and their cells, relations and the gluing of two rows,
-//! spans that overlap, and devices: std's readers and writers, files in memory and of a folder. And the traits of rows
-//! and of joins at small types, with the proofs that these keep their laws.
+//! spans that overlap, phases of several workers, and devices: std's readers and writers, files in memory and of a
+//! folder. And the traits of rows and of joins at small types, with the proofs that these keep their laws.
 //!
 //! What a script with its output can say is a case (docs/CASES.md), and what a contract says is proved.
 #![tactic(auto)]
@@ -21,6 +21,8 @@ mod files;
 pub mod joins;
 #[cfg(test)]
 mod listing;
+#[cfg(test)]
+mod phases;
 #[cfg(test)]
 mod relations;
 pub mod rows;

@@ -150,11 +150,12 @@ impl Names {
     {
         self.rows_fit();
         self.db.names_differ();
-        let view = View::new(rt, alloc, query, &*self, workers, gate)?;
-        view.kept();
         let schema = query.first.schema.copy()?;
         let key = name.copy()?;
-        self.db.live(name.copy()?, schema)?;
+        let shown = name.copy()?;
+        let view = View::new(rt, alloc, query, &*self, workers, gate)?;
+        view.kept();
+        self.db.live(shown, schema)?;
         self.views.insert(key, view)?;
         Ok(())
     }

@@ -6,5 +6,6 @@ pub mod ExpressionRules
 pub mod LiteralRules
 pub mod Loops
 pub mod QueryRules
+pub mod Sequences
 pub mod TextValues
 pub mod WhereRules

@@ -235,8 +235,13 @@ fn containment<'a>(
     let rest = expect(rest, Sort::LeftParen)?;
     let read = expression(reading, rest)?;
     let (period, rest) = followed(read, Sort::Comma)?;
-    let (day, rest) = expression(reading, rest)?;
-    followed((CondText::Contains(period, day), rest), Sort::RightParen)
+    match expression(reading, rest) {
+        Ok((day, rest)) => followed((CondText::Contains(period, day), rest), Sort::RightParen),
+        Err(refusal) => {
+            drop(period);
+            Err(refusal)
+        }
+    }
 }
 
 // Two expressions with a comparison or a predicate between them.
@@ -264,6 +269,7 @@ fn compared<'a>(
     ensures { Gives result (by reading.now spec.compare left lexemes.now) }
 {
     let Some(op) = comparison_of(sort_at(lexemes)) else {
+        drop(left);
         return Err(Refusal::Syntax);
     };
     match expression(reading, after(lexemes)) {
@@ -285,6 +291,7 @@ fn related<'a>(
     ensures { Gives result (by reading.now spec.relate left lexemes.now) }
 {
     let Some(pred) = predicate_of(sort_at(lexemes)) else {
+        drop(left);
         return Err(Refusal::Syntax);
     };
     match expression(reading, after(lexemes)) {

@@ -67,8 +67,13 @@ fn item<'a>(
     ensures { Gives result (by reading.now spec.item lexemes.now) }
 {
     let (expr, rest) = expression(reading, lexemes)?;
-    let (name, rest) = given_name(reading, rest)?;
-    Ok((ItemText { expr, name }, rest))
+    match given_name(reading, rest) {
+        Ok((name, rest)) => Ok((ItemText { expr, name }, rest)),
+        Err(refusal) => {
+            drop(expr);
+            Err(refusal)
+        }
+    }
 }
 
 // The name after AS, or none.

@@ -113,8 +113,9 @@ impl Drop for SetText {
     fn drop(self) {
         let SetText {
             column: _column,
-            expr: _expr,
+            expr,
         } = self;
+        drop(expr);
     }
 }
 
@@ -146,9 +147,10 @@ impl Drop for CoreText {
         let CoreText {
             items: _items,
             tables: _tables,
-            cond: _cond,
+            cond,
             semis: _semis,
         } = self;
+        drop(cond);
     }
 }
 
@@ -167,8 +169,9 @@ impl Drop for SemiText {
             positive: _positive,
             name: _name,
             alias: _alias,
-            cond: _cond,
+            cond,
         } = self;
+        drop(cond);
     }
 }
 
@@ -188,10 +191,8 @@ pub struct ItemText {
 // A call of its own: what drops an item has one step for it.
 impl Drop for ItemText {
     fn drop(self) {
-        let ItemText {
-            expr: _expr,
-            name: _name,
-        } = self;
+        let ItemText { expr, name: _name } = self;
+        drop(expr);
     }
 }
 
@@ -208,8 +209,9 @@ impl Drop for FromText {
         let FromText {
             name: _name,
             alias: _alias,
-            on: _on,
+            on,
         } = self;
+        drop(on);
     }
 }
 
@@ -265,20 +267,45 @@ impl CondText {
             CondText::And(all) => Ok(CondText::And(copy_conditions(alloc, all)?)),
             CondText::Or(all) => Ok(CondText::Or(copy_conditions(alloc, all)?)),
             CondText::Not(one) => Ok(CondText::Not(Boxed::new(alloc, one.get().copy(alloc)?)?)),
-            CondText::Compare { op, left, right } => Ok(CondText::Compare {
-                op: *op,
-                left: left.copy(alloc)?,
-                right: right.copy(alloc)?,
-            }),
-            CondText::Relate { pred, left, right } => Ok(CondText::Relate {
-                pred: *pred,
-                left: left.copy(alloc)?,
-                right: right.copy(alloc)?,
-            }),
+            CondText::Compare { op, left, right } => {
+                let (left, right) = copy_both(alloc, left, right)?;
+                Ok(CondText::Compare {
+                    op: *op,
+                    left,
+                    right,
+                })
+            }
+            CondText::Relate { pred, left, right } => {
+                let (left, right) = copy_both(alloc, left, right)?;
+                Ok(CondText::Relate {
+                    pred: *pred,
+                    left,
+                    right,
+                })
+            }
             CondText::Empty(period) => Ok(CondText::Empty(period.copy(alloc)?)),
             CondText::Contains(period, day) => {
-                Ok(CondText::Contains(period.copy(alloc)?, day.copy(alloc)?))
+                let (period, day) = copy_both(alloc, period, day)?;
+                Ok(CondText::Contains(period, day))
             }
+        }
+    }
+}
+
+// Both expressions once more.
+fn copy_both(
+    alloc: Global,
+    left: &ExprText,
+    right: &ExprText,
+) -> Result<(ExprText, ExprText), NoMemory>
+    ensures { IfOk result (λ both. both ≡ (left.now, right.now)) }
+{
+    let left = left.copy(alloc)?;
+    match right.copy(alloc) {
+        Ok(right) => Ok((left, right)),
+        Err(NoMemory) => {
+            drop(left);
+            Err(NoMemory)
         }
     }
 }

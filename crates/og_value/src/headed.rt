@@ -7,14 +7,21 @@ use crate::listed::Listed;
 use crate::value::Value;
 use og_base::NoMemory;
 use std::alloc::Global;
+use std::fmt;
 use std::marker::Model;
 
 /// Values, seen as their list. Where the first is a number, it stands beside them too, so that it is told without a
 /// look at the memory in which they lie.
-#[derive(Debug, Drop)]
+#[derive(Drop)]
 pub(crate) struct Headed {
     first: i64,
     values: Listed<Value>,
+}
+
+impl fmt::Debug for Headed {
+    fn fmt<W: fmt::Write>(&self, f: &mut fmt::Formatter<W>) -> fmt::Result {
+        self.values.fmt(f)
+    }
 }
 
 impl Model for Headed {

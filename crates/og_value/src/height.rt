@@ -15,7 +15,7 @@ use std::marker::Model;
 const WORD: u128 = 1 << 64;
 
 /// A height, seen as the number. Two words begin at any word, where a number of 128 bits begins at every second one.
-#[derive(Debug, Drop)]
+#[derive(Drop)]
 pub(crate) struct Height {
     high: u64,
     low: u64,

@@ -7,7 +7,7 @@ use og_base::NoMemory;
 use std::alloc::Global;
 use std::cmp::Ordering;
 use std::marker::Model;
-use std::{mem, slice};
+use std::{fmt, mem, slice};
 
 // How many parts lie in the value itself.
 const FEW: usize = 2;
@@ -16,7 +16,7 @@ const FEW: usize = 2;
 const ROOM: usize = 4;
 
 // Where the parts of a list lie.
-#[derive(Debug, Drop)]
+#[derive(Drop)]
 enum Places<T> {
     // There is none.
     Empty,
@@ -46,7 +46,6 @@ impl<T: Drop> Places<T> {
 
 /// Parts, seen as their list. At most two take no memory of their own. Lists are ordered from the left,
 /// and a list comes after each front of it.
-#[derive(Debug)]
 pub struct Listed<T> {
     alloc: Global,
     places: Places<T>,
@@ -59,6 +58,12 @@ impl<T: Drop> Drop for Listed<T> {
             alloc: _alloc,
             places: _places,
         } = self;
+    }
+}
+
+impl<T: fmt::Debug> fmt::Debug for Listed<T> {
+    fn fmt<W: fmt::Write>(&self, f: &mut fmt::Formatter<W>) -> fmt::Result {
+        fmt::Debug::fmt(&self.as_slice(), f)
     }
 }
 

@@ -7,6 +7,7 @@ ghost use Rattle.og_value.specs.Heights.{IsListHeight};
 use crate::height::Height;
 use crate::listed::Listed;
 use std::cmp::Ordering;
+use std::fmt;
 use std::marker::Model;
 
 /// Parts of which each has a height, a number that rises with them.
@@ -26,10 +27,16 @@ pub(crate) trait HasHeight: Ord {
 }
 
 /// A list of parts with the height of the first one, seen as the list.
-#[derive(Debug, Drop)]
+#[derive(Drop)]
 pub(crate) struct Measured<T: HasHeight> {
     height: Height,
     parts: Listed<T>,
+}
+
+impl<T: HasHeight + fmt::Debug> fmt::Debug for Measured<T> {
+    fn fmt<W: fmt::Write>(&self, f: &mut fmt::Formatter<W>) -> fmt::Result {
+        self.parts.fmt(f)
+    }
 }
 
 impl<T: HasHeight> Model for Measured<T> {

@@ -14,7 +14,7 @@ const ROOM: usize = 14;
 
 /// A text of at most 14 bytes, which takes no memory of its own, seen as its bytes in UTF-8. The places
 /// past them hold 0.
-#[derive(Debug, Drop)]
+#[derive(Drop)]
 pub(crate) struct Short {
     len: u8,
     bytes: [u8; ROOM],

@@ -11,8 +11,8 @@ use og_base::NoMemory;
 use std::alloc::{AllocError, Global};
 use std::cmp::Ordering;
 use std::marker::Model;
-use std::str;
 use std::sync::ArcStr;
+use std::{fmt, str};
 use thiserror::Error;
 
 /// Why bytes are no text.
@@ -37,7 +37,7 @@ impl From<AllocError> for TextRefusal {
 }
 
 // Where the bytes of a text lie.
-#[derive(Debug, Drop)]
+#[derive(Drop)]
 enum Held {
     // In the value itself.
     Short(Short),
@@ -47,7 +47,6 @@ enum Held {
 
 /// A text, seen as its bytes in UTF-8. Texts are ordered by their bytes. One of at most 14 bytes takes
 /// no memory of its own, and copies of a longer one share the bytes.
-#[derive(Debug)]
 pub struct Text {
     held: Held,
 }
@@ -56,6 +55,12 @@ pub struct Text {
 impl Drop for Text {
     fn drop(self) {
         let Text { held: _held } = self;
+    }
+}
+
+impl fmt::Debug for Text {
+    fn fmt<W: fmt::Write>(&self, f: &mut fmt::Formatter<W>) -> fmt::Result {
+        fmt::Debug::fmt(&self.as_str(), f)
     }
 }
 

@@ -37,12 +37,29 @@ run_none rest none c (load_after option n rows workers e f g k) = cc
 pub at_is : (file text : List ℕ) (day : ℤ) → IsFile file → IsDay text day → IsCommand (codes "at" ∷ file ∷ text ∷ []) (commands.At file day)
 at_is file text day h k = at file text day refl h k refl
 
+-- no words begin with two words that differ
+at_no_run : (rest other : List (List ℕ)) → codes "at" ∷ rest ≡ codes "run" ∷ other → ⊥
+at_no_run rest other e = cc
+
+at_no_load : (rest other : List (List ℕ)) → codes "at" ∷ rest ≡ codes "load" ∷ other → ⊥
+at_no_load rest other e = cc
+
+load_no_run : (rest other : List (List ℕ)) → codes "load" ∷ rest ≡ codes "run" ∷ other → ⊥
+load_no_run rest other e = cc
+
+-- what stands after the first word
+after_at : (rest other : List (List ℕ)) → codes "at" ∷ rest ≡ codes "at" ∷ other → rest ≡ other
+after_at rest other e = cc
+
+after_load : (rest other : List (List ℕ)) → codes "load" ∷ rest ≡ codes "load" ∷ other → rest ≡ other
+after_load rest other e = cc
+
 -- the words after `at` are a file and a day
 pub at_parts : (rest : List (List ℕ)) (c : Command) → IsCommand (codes "at" ∷ rest) c → (file : List ℕ) × (text : List ℕ) × (rest ≡ file ∷ text ∷ []) × IsFile file × ((day : ℤ) × IsDay text day)
-at_parts rest c (run n d e h k) = cc
-at_parts rest c (at file text day e f g k) = (file, text, cc, f, (day, g))
-at_parts rest c (load_before option n rows workers e f g k) = cc
-at_parts rest c (load_after option n rows workers e f g k) = cc
+at_parts rest c (run option n e h k) = absurd (at_no_run rest option e)
+at_parts rest c (at file text day e f g k) = (file, text, after_at rest (file ∷ text ∷ []) e, f, (day, g))
+at_parts rest c (load_before option n rows workers e f g k) = absurd (at_no_load rest (option ++ n ∷ []) e)
+at_parts rest c (load_after option n rows workers e f g k) = absurd (at_no_load rest (n ∷ option) e)
 
 pub at_no_file : (file text : List ℕ) → ¬ IsFile file → (c : Command) → ¬ IsCommand (codes "at" ∷ file ∷ text ∷ []) c
 at_no_file file text none c h =
@@ -89,10 +106,10 @@ data IsLoad (rest : List (List ℕ)) : Type 0 where
   is_after : (option : List (List ℕ)) (n : List ℕ) (rows workers : ℕ) → rest ≡ n ∷ option → IsOption option workers → IsRows n rows → IsLoad rest
 
 load_parts : (rest : List (List ℕ)) (c : Command) → IsCommand (codes "load" ∷ rest) c → IsLoad rest
-load_parts rest c (run n d e h k) = cc
-load_parts rest c (at file text day e f g k) = cc
-load_parts rest c (load_before option n rows workers e f g k) = is_before option n rows workers (cc) f g
-load_parts rest c (load_after option n rows workers e f g k) = is_after option n rows workers (cc) g f
+load_parts rest c (run option n e h k) = absurd (load_no_run rest option e)
+load_parts rest c (at file text day e f g k) = absurd (at_no_load (file ∷ text ∷ []) rest (sym e))
+load_parts rest c (load_before option n rows workers e f g k) = is_before option n rows workers (after_load rest (option ++ n ∷ []) e) f g
+load_parts rest c (load_after option n rows workers e f g k) = is_after option n rows workers (after_load rest (n ∷ option) e) g f
 
 nothing_loads : IsLoad [] → ⊥
 nothing_loads (is_before option n rows workers e f g) = no_last option n e

@@ -1,6 +1,6 @@
 //! The command line as clap sees it.
 ghost use Rattle.std.specs.Prelude.{◌≡◌, IfOk, false};
-ghost use Rattle.clap.specs.Words.{app_of};
+ghost use Rattle.clap.specs.Words.{App, app_of, with_subcommand as added};
 ghost use Rattle.clap.specs.declared.builder.command.Command.{out-Command};
 ghost use Rattle.og_words.specs.Shape.{ongq, run, at, load};
 
@@ -11,15 +11,24 @@ use std::alloc::{AllocError, Global};
 pub fn ongq_command<'a>(alloc: Global) -> Result<Command<'a>, AllocError>
     ensures { IfOk result (λ c. app_of c ≡ ongq) }
 {
-    let run = run_command(alloc)?;
-    let at = at_command(alloc)?;
-    let load = load_command(alloc)?;
     let plain = Command::new(alloc, "ongq")
         .no_binary_name(true)
         .subcommand_required(true);
-    let one = plain.subcommand(run)?;
-    let two = one.subcommand(at)?;
-    two.subcommand(load)
+    let one = with_subcommand(plain, run_command(alloc))?;
+    let two = with_subcommand(one, at_command(alloc))?;
+    with_subcommand(two, load_command(alloc))
+}
+
+// The command with one more below it, where that was made.
+fn with_subcommand<'a>(
+    command: Command<'a>,
+    made: Result<Command<'a>, AllocError>,
+) -> Result<Command<'a>, AllocError>
+    ensures { (app : App) → IfOk made.entry (λ c. app_of c ≡ app) → IfOk made.entry (λ c. (out-Command c).has_globals ≡ false)
+        → IfOk result (λ c. app_of c ≡ added (app_of command.entry) app.top) }
+{
+    let made = made?;
+    command.subcommand(made)
 }
 
 // `run`, with the option.
@@ -37,8 +46,8 @@ fn at_command<'a>(alloc: Global) -> Result<Command<'a>, AllocError>
     ensures local { IfOk result (λ c. (out-Command c).has_globals ≡ false) }
 {
     let file = Arg::new(alloc, "file").required(true);
-    let day = Arg::new(alloc, "day").required(true);
     let one = Command::new(alloc, "at").arg(file)?;
+    let day = Arg::new(alloc, "day").required(true);
     one.arg(day)
 }
 
@@ -48,7 +57,7 @@ fn load_command<'a>(alloc: Global) -> Result<Command<'a>, AllocError>
     ensures local { IfOk result (λ c. (out-Command c).has_globals ≡ false) }
 {
     let rows = Arg::new(alloc, "rows").required(true);
-    let workers = Arg::new(alloc, "workers").long("workers");
     let one = Command::new(alloc, "load").arg(rows)?;
+    let workers = Arg::new(alloc, "workers").long("workers");
     one.arg(workers)
 }

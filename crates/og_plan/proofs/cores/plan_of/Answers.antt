@@ -8,6 +8,7 @@ use Rattle.og_plan.specs.Shapes.{is_sound, scans_of}
 use Rattle.og_plan.specs.Sizes.{plan_size}
 use Rattle.og_plan.specs.declared.plan.Plan.{Plan}
 use Rattle.og_plan.specs.declared.plan.Plan.TheVariants.{Combine}
+use Rattle.og_plan.proofs.LoopLemmas.{all_here, folded_more}
 use Rattle.og_plan.proofs.MeaningCores.{plan_means}
 use Rattle.og_plan.proofs.SizeLemmas.{plan_keeps_size}
 use Rattle.og_plan.proofs.ShapeLemmas.{plan_is_sound, plan_scans}
@@ -34,3 +35,15 @@ returns-clause-sound c =
 pub returns-clause-scans : goal.returns-clause-scans
 returns-clause-scans c =
     ap scans_of (all_made c.args.query.now c.rests.plan _ c.rests.rest-index c.as_slice-rest-items.ensures c.rests-test.false c.rests.invariant) ∙ plan_scans c.args.query.now c.requires.tables
+
+pub rests-preserved : goal.rests-preserved
+rests-preserved c =
+    folded_more (λ left rest. Combine rest.op left (core_plan rest.core)) (core_plan c.args.query.now.first) c.as_slice-rest-items.result.now c.rests.rest-index c.rest-item.result c.rests.plan _ c.rests-test.true c.rest-item.is c.rests.invariant
+    c.in_ok-plan-2.ensures
+
+pub combined-requires : goal.combined-requires
+combined-requires c =
+    all_here (λ rest. 1 ≤ length rest.core.tables) c.args.query.now.rest c.as_slice-rest-items.result.now c.rests.rest-index c.rest-item.result c.as_slice-rest-items.ensures c.rests-test.true c.rest-item.is c.requires.tables.1
+
+pub returns-clause-plan : goal.returns-clause-plan
+returns-clause-plan c = all_made c.args.query.now c.rests.plan _ c.rests.rest-index c.as_slice-rest-items.ensures c.rests-test.false c.rests.invariant

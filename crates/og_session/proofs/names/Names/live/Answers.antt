@@ -23,7 +23,7 @@ pub live-requires : goal.live-requires
 live-requires g c =
     let db = c.self.inside.db in
     let views = c.self.inside.views.entries in
-    subst (λ name. known_of db name ≡ None) (sym c.in_ok-copy.ensures)
+    subst (λ name. known_of db name ≡ None) (sym c.in_ok-shown.ensures)
     (sym (known_of-shown views db c.args.name.now) ∙ ap (λ n. known_of n.names c.args.name.now) c.self.view_is ∙ c.requires.fits.0)
 
 pub invariant_of-self-in_err-insert : goal.invariant_of-self-in_err-insert
@@ -47,7 +47,7 @@ invariant_of-self-2 g c =
     λ other used. c.in_ok-view.ensures.known other (subst (λ q. uses q other ≡ true) c.in_ok-view.ensures.query used) ∙ ap (λ n. known_of n.names other) (sym c.self.view_is) in
     subst (λ es. AreLiveViews c.live.new.self es) (sym entries)
     (subst (λ d. AreLiveViews d (views ++ (name, view) ∷ []))
-    (λ i. sym (c.in_ok-live.ensures.added ∙ (λ j. db ++ record { name = c.in_ok-copy.ensures j; what = what.Live; columns = (c.in_ok-schema.ensures ∙ ap (λ q. q.first.schema) (sym c.in_ok-view.ensures.query)) j; rows = [] } ∷ [])) i)
+    (λ i. sym (c.in_ok-live.ensures.added ∙ (λ j. db ++ record { name = c.in_ok-shown.ensures j; what = what.Live; columns = (c.in_ok-schema.ensures ∙ ap (λ q. q.first.schema) (sym c.in_ok-view.ensures.query)) j; rows = [] } ∷ [])) i)
     (live_views db views c.self.invariant name view new (record { live = c.kept.ensures.live; fits = c.kept.ensures.fits; law = c.kept.ensures.law; size = c.kept.ensures.size; kinds = c.kept.ensures.kinds }) known))
 
 pub returns-clause-done : goal.returns-clause-done
@@ -70,5 +70,5 @@ returns-clause-done g c =
     (subst (λ n. IsDone n (watched c.live.new.self c.insert.new.self.entries) (on_names (t.Live name view.query))) c.self.view_is
     (subst (λ es. IsDone (watched db views) (watched c.live.new.self es) (on_names (t.Live name view.query))) (sym entries)
     (subst (λ d. IsDone (watched db views) (watched d (views ++ (name, view) ∷ [])) (on_names (t.Live name view.query)))
-    (λ i. sym (c.in_ok-live.ensures.added ∙ (λ j. db ++ record { name = c.in_ok-copy.ensures j; what = what.Live; columns = (c.in_ok-schema.ensures ∙ ap (λ q. q.first.schema) (sym c.in_ok-view.ensures.query)) j; rows = [] } ∷ [])) i)
+    (λ i. sym (c.in_ok-live.ensures.added ∙ (λ j. db ++ record { name = c.in_ok-shown.ensures j; what = what.Live; columns = (c.in_ok-schema.ensures ∙ ap (λ q. q.first.schema) (sym c.in_ok-view.ensures.query)) j; rows = [] } ∷ [])) i)
     (live_done db views c.self.invariant name view new (record { live = c.kept.ensures.live; fits = c.kept.ensures.fits; law = c.kept.ensures.law; size = c.kept.ensures.size; kinds = c.kept.ensures.kinds }) known c.names_differ.ensures rows sizes))))
