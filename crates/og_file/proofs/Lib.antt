@@ -1,4 +1,5 @@
 pub mod AllBytes
+pub mod BadRecordLemmas
 pub mod CellChoice
 pub mod CellLemmas
 pub mod CutFiles

@@ -1,3 +1,4 @@
+pub mod BadRecords
 pub mod Readers
 pub mod Records
 pub mod SavedFile

@@ -1,5 +1,5 @@
 -- The records of a file, as the crate csv reads them. A byte order mark at the front is no part of them.
-use Rattle.std.specs.Prelude.{ℕ, List, [], ◌∷◌}
+use Rattle.std.specs.Prelude.{◌≡◌, ◌++◌, ◌+◌, ℕ, List, [], ◌∷◌, length}
 use Rattle.csv.specs.Reading.{default_config, strip_bom, Reached, AreRecords}
 use Rattle.csv.specs.declared.parser.State.{State}
 use Rattle.csv.specs.declared.parser.State.TheVariants as st
@@ -15,6 +15,10 @@ AreAll bytes records = AreRecords default_config st.StartRecord (strip_bom bytes
 -- these are the first records of the bytes
 abbrev pub Begins : List ℕ → List Record → Type 0
 Begins bytes records = (state : State) × (rest : List ℕ) × Reached default_config st.StartRecord (strip_bom bytes) records state rest
+
+-- this is the record with that number, from 1
+abbrev pub IsRecordAt : List ℕ → ℕ → Record → Type 0
+IsRecordAt bytes number fields = (before : List Record) × Begins bytes (before ++ fields ∷ []) × (length before + 1 ≡ number)
 
 -- each record is so of its value, in order
 abbrev pub Each : {A : Type 0} → (Record → A → Type 0) → List Record → List A → Type 0

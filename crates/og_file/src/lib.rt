@@ -7,9 +7,13 @@
 //! specs/TableFile.antt. The records of bytes are those of the crate `csv` (specs/Records.antt), read one
 //! at a time over one buffer.
 //!
+//! `record_at` gives one record of bytes. `bad_record` and `bad_saved_record` tell what is wrong with a record
+//! of a file that was refused (specs/BadRecords.antt).
+//!
 //! No tests here: the cases test the calls (docs/CASES.md).
 #![tactic(auto)]
 
+mod bad_records;
 mod cells;
 mod header;
 mod laws;
@@ -21,6 +25,7 @@ mod saved;
 mod table;
 mod write;
 
+pub use bad_records::{BadRecord, bad_record, bad_saved_record};
 pub use laws::{
     a_cut_file_is_refused, a_mark_changes_nothing, a_saved_file_is_no_table_file,
     column_names_are_words, each_saved_file_or_fault, each_table_file_or_fault,
@@ -28,6 +33,7 @@ pub use laws::{
     one_fault_of_a_table_file, one_list_of_records, one_saved_file, one_table_file,
     records_of_all_bytes, rows_of_a_saved_file_fit, rows_of_a_table_file_fit,
 };
+pub use records::record_at;
 pub use refusal::FileRefusal;
 pub use saved::{Saved, read_saved};
 pub use table::read_table;

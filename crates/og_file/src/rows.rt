@@ -48,7 +48,7 @@ pub(crate) fn row_two(
 }
 
 // The field behind those of the columns, where it is the last one.
-fn days_field<'a>(schema: &Schema, fields: &'a ByteRecord) -> Option<&'a [u8]>
+pub(crate) fn days_field<'a>(schema: &Schema, fields: &'a ByteRecord) -> Option<&'a [u8]>
     ensures last { IfSome result (λ field. fields_of fields.now ≡ take (length schema.now) (fields_of fields.now) ++ field.now ∷ []) }
     ensures none { IfNone result ((cells : List (List ℕ)) (field : List ℕ) → length cells ≡ length schema.now → ¬ (fields_of fields.now ≡ cells ++ field ∷ [])) }
 {

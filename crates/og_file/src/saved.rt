@@ -48,7 +48,7 @@ pub fn read_saved(alloc: Global, bytes: &[u8]) -> Result<Saved, FileRefusal>
 }
 
 // Whether the record is the first one of version 2.
-fn is_mark(fields: &ByteRecord) -> bool
+pub(crate) fn is_mark(fields: &ByteRecord) -> bool
     ensures { Decides result (fields_of fields.now ≡ mark) }
 {
     if fields.len() != 1 {
@@ -96,7 +96,10 @@ fn version_two(
 }
 
 // The columns and the number of rows that the first record of version 1 has.
-fn header_of(alloc: Global, fields: &ByteRecord) -> Result<Option<(Schema, u64)>, NoMemory>
+pub(crate) fn header_of(
+    alloc: Global,
+    fields: &ByteRecord,
+) -> Result<Option<(Schema, u64)>, NoMemory>
     ensures header { IfOk result (λ found. IfSome found (λ h. IsHeader (fields_of fields.now) h.0 h.1)) }
     ensures none { IfOk result (λ found. IfNone found ((columns : List Column) (count : ℕ) → ¬ IsHeader (fields_of fields.now) columns count)) }
 {
@@ -199,7 +202,7 @@ fn add_two(
 }
 
 // The number of rows that the record says, where it is the last one of version 2.
-fn end_of(fields: &ByteRecord) -> Option<u64>
+pub(crate) fn end_of(fields: &ByteRecord) -> Option<u64>
     ensures end { IfSome result (IsEnd (fields_of fields.now)) }
     ensures none { IfNone result ((count : ℕ) → ¬ IsEnd (fields_of fields.now) count) }
 {
