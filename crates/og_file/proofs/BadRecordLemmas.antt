@@ -44,7 +44,7 @@ one_behind (f ∷ g ∷ fs) (suc n) long =
     less : (m n : ℕ) → suc (suc m) ≡ suc n + 1 → suc m ≡ n + 1
     less m n long = omega (arith, long)
 
--- where no field is the one behind so many others, there are not so many
+-- where no field is the one behind n others, there are not n + 1
 pub other_count : (fs : Record) (n : ℕ) → ((cells : Record) (field : List ℕ) → length cells ≡ n → ¬ (fs ≡ cells ++ field ∷ [])) → length fs ≢ n + 1
 other_count fs n none long = let last = one_behind fs n long in none last.0 last.1 last.2 last.3
 

@@ -5,6 +5,7 @@ pub mod CellLemmas
 pub mod CutFiles
 pub mod Finds
 pub mod Fitting
+pub mod GoodRecordLemmas
 pub mod HeaderChoice
 pub mod HeaderLemmas
 pub mod MarkedBytes

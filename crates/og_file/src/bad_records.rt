@@ -1,6 +1,7 @@
 //! What is wrong with a record of a file.
 ghost use Rattle.std.specs.Prelude.{◌≡◌, ◌≤◌, ◌+◌, List, IfOk, IfSome, IfNone, length, take};
 ghost use Rattle.csv.specs.Records.{fields_of};
+ghost use Rattle.og_value.specs.declared.schema.Column as columns;
 ghost use Rattle.og_value.specs.declared.value.Value as values;
 ghost use Rattle.og_file.specs.BadRecords.{HasColumns, IsBadCell, IsBadOne, IsBadRecord, IsBadRow, IsBadSavedRecord, IsBadSavedRow, IsBadTwo};
 ghost use Rattle.og_file.specs.Records.{Record, IsRecordAt};
@@ -32,15 +33,16 @@ pub enum BadRecord {
 }
 
 /// What is wrong with the record of a table file for the schema that has this number, counted from 1:
-/// `Fields` or `Cell`. None where it is a row, and where there is no such record. Refused only where
-/// memory runs out.
+/// `Fields` or `Cell`. None exactly where it is a row, and where there is no such record. The first record,
+/// that of the names, is taken for a row too. Refused only where memory runs out.
 pub fn bad_record(
     alloc: Global,
     schema: &Schema,
     bytes: &[u8],
     number: u64,
 ) -> Result<Option<BadRecord>, NoMemory>
-    ensures { IfOk result (λ told. IfSome told (IsBadRecord schema.now bytes.now number)) }
+    ensures told { IfOk result (λ told. IfSome told (IsBadRecord schema.now bytes.now number)) }
+    ensures none { IfOk result (λ told. IfNone told ((bad : BadRecord) → ¬ IsBadRecord schema.now bytes.now number bad)) }
 {
     match record_at(alloc, bytes, number)? {
         Some(fields) => bad_row(alloc, schema, &fields),
@@ -50,15 +52,16 @@ pub fn bad_record(
 
 /// What is wrong with the record of a saved file that has this number, counted from 1. The header of the
 /// file names the columns; a row has a field for each, and one of days behind them. `Missing` and `NotLast`
-/// are told of version 2 alone: the last record says the number of rows there. None where the record is of
-/// its form, where it belongs to the header, and where the file has no header of either version. Refused
-/// only where memory runs out.
+/// are told of version 2 alone, whose last record says the number of rows. None exactly where the record is
+/// of its form, where it belongs to the header or is missing in version 1, and where the file has no header
+/// of either version. Refused only where memory runs out.
 pub fn bad_saved_record(
     alloc: Global,
     bytes: &[u8],
     number: u64,
 ) -> Result<Option<BadRecord>, NoMemory>
-    ensures { IfOk result (λ told. IfSome told (IsBadSavedRecord bytes.now number)) }
+    ensures told { IfOk result (λ told. IfSome told (IsBadSavedRecord bytes.now number)) }
+    ensures none { IfOk result (λ told. IfNone told ((bad : BadRecord) → ¬ IsBadSavedRecord bytes.now number bad)) }
 {
     if let Some(schema) = schema_two(alloc, bytes)? {
         return bad_two(alloc, &schema, bytes, number);
@@ -71,7 +74,8 @@ pub fn bad_saved_record(
 
 // The columns that a header of version 1 names.
 fn schema_one(alloc: Global, bytes: &[u8]) -> Result<Option<Schema>, NoMemory>
-    ensures { IfOk result (λ found. IfSome found (HasColumns one bytes.now)) }
+    ensures columns { IfOk result (λ found. IfSome found (HasColumns one bytes.now)) }
+    ensures none { IfOk result (λ found. IfNone found ((columns : List columns.Column) → ¬ HasColumns one bytes.now columns)) }
 {
     let Some(first) = record_at(alloc, bytes, 1)? else {
         return Ok(None);
@@ -84,7 +88,8 @@ fn schema_one(alloc: Global, bytes: &[u8]) -> Result<Option<Schema>, NoMemory>
 
 // The columns that a header of version 2 names.
 fn schema_two(alloc: Global, bytes: &[u8]) -> Result<Option<Schema>, NoMemory>
-    ensures { IfOk result (λ found. IfSome found (HasColumns two bytes.now)) }
+    ensures columns { IfOk result (λ found. IfSome found (HasColumns two bytes.now)) }
+    ensures none { IfOk result (λ found. IfNone found ((columns : List columns.Column) → ¬ HasColumns two bytes.now columns)) }
 {
     let Some(first) = record_at(alloc, bytes, 1)? else {
         return Ok(None);
@@ -105,7 +110,8 @@ fn bad_one(
     bytes: &[u8],
     number: u64,
 ) -> Result<Option<BadRecord>, NoMemory>
-    ensures { IfOk result (λ told. IfSome told (IsBadOne schema.now bytes.now number)) }
+    ensures told { IfOk result (λ told. IfSome told (IsBadOne schema.now bytes.now number)) }
+    ensures none { IfOk result (λ told. IfNone told ((bad : BadRecord) → ¬ IsBadOne schema.now bytes.now number bad)) }
 {
     if number < 2 {
         return Ok(None);
@@ -130,7 +136,8 @@ fn bad_two(
     bytes: &[u8],
     number: u64,
 ) -> Result<Option<BadRecord>, NoMemory>
-    ensures { IfOk result (λ told. IfSome told (IsBadTwo schema.now bytes.now number)) }
+    ensures told { IfOk result (λ told. IfSome told (IsBadTwo schema.now bytes.now number)) }
+    ensures none { IfOk result (λ told. IfNone told ((bad : BadRecord) → ¬ IsBadTwo schema.now bytes.now number bad)) }
 {
     if number < 3 {
         return Ok(None);
@@ -151,17 +158,19 @@ fn bad_two(
     }
 }
 
-// Whether the record, which says the number of rows, is not the last.
+// `NotLast` exactly where another record follows the one with this number. Memory ends before the number of
+// a record has more than 64 bits.
 fn bad_end(alloc: Global, bytes: &[u8], number: u64) -> Result<Option<BadRecord>, NoMemory>
-    ensures { IfOk result (λ told. IfSome told (λ t. (t ≡ BadRecord.NotLast) × (next : Record) × IsRecordAt bytes.now (number + 1) next)) }
+    ensures told { IfOk result (λ told. IfSome told (λ t. (t ≡ BadRecord.NotLast) × (next : Record) × IsRecordAt bytes.now (number + 1) next)) }
+    ensures none { IfOk result (λ told. IfNone told ((next : Record) → ¬ IsRecordAt bytes.now (number + 1) next)) }
 {
     let Some(behind) = number.checked_add(1) else {
+        return Err(NoMemory);
+    };
+    let Some(_) = record_at(alloc, bytes, behind)? else {
         return Ok(None);
     };
-    match record_at(alloc, bytes, behind)? {
-        Some(_) => Ok(Some(BadRecord::NotLast)),
-        None => Ok(None),
-    }
+    Ok(Some(BadRecord::NotLast))
 }
 
 // What is wrong with the fields as a row of a table file.
@@ -170,7 +179,8 @@ fn bad_row(
     schema: &Schema,
     fields: &ByteRecord,
 ) -> Result<Option<BadRecord>, NoMemory>
-    ensures bad { IfOk result (λ told. IfSome told (IsBadRow schema.now (fields_of fields.now))) }
+    ensures told { IfOk result (λ told. IfSome told (IsBadRow schema.now (fields_of fields.now))) }
+    ensures none { IfOk result (λ told. IfNone told ((bad : BadRecord) → ¬ IsBadRow schema.now (fields_of fields.now) bad)) }
 {
     if fields.len() != schema.len() {
         return Ok(Some(BadRecord::Fields {
