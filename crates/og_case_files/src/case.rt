@@ -14,6 +14,8 @@ pub struct Case {
     pub script: Vec<u8>,
     pub output: Vec<u8>,
     pub status: u8,
+    /// What is written to standard error; no bytes where the case does not say.
+    pub error: Vec<u8>,
     /// The script as it is printed; no bytes where the case does not say.
     pub printed: Vec<u8>,
     /// The files that are there before the run or are named afterwards. Each name stands once.
@@ -32,6 +34,7 @@ impl Case {
             script: Vec::new(alloc),
             output: Vec::new(alloc),
             status: 0,
+            error: Vec::new(alloc),
             printed: Vec::new(alloc),
             files: Vec::new(alloc),
         })

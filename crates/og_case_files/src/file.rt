@@ -134,7 +134,9 @@ impl Book {
         } else {
             let piece = Piece::of(head, text)?;
             match piece.sign {
-                Sign::Output | Sign::Printed => return Err(Refusal::NotALine),
+                Sign::Output | Sign::Error | Sign::Printed => {
+                    return Err(Refusal::NotALine);
+                }
                 Sign::Line | Sign::Part => add_piece(alloc, &piece, &mut setup.script)?,
                 _ => add_content(alloc, &piece, self.content, &mut setup.files)?,
             }
@@ -153,6 +155,7 @@ fn add_to_case(
 ) -> Result<(), Refusal> {
     match piece.sign {
         Sign::Output => add_piece(alloc, piece, &mut case.output),
+        Sign::Error => add_piece(alloc, piece, &mut case.error),
         Sign::Printed => add_piece(alloc, piece, &mut case.printed),
         Sign::Line | Sign::Part => add_piece(alloc, piece, &mut case.script),
         _ => add_content(alloc, piece, content, &mut case.files),

@@ -13,6 +13,8 @@ pub enum Sign {
     Part,
     /// A line of the output.
     Output,
+    /// A line of standard error.
+    Error,
     /// A line of the script as it is printed.
     Printed,
     /// A line of a file.
@@ -21,8 +23,8 @@ pub enum Sign {
     FilePart,
 }
 
-/// A piece of a script, of an output, of a printed script or of a file. It stands once where no number of
-/// turns is said.
+/// A piece of a script, of an output, of standard error, of a printed script or of a file. It stands once where
+/// no number of turns is said.
 #[derive(Clone, Copy)]
 pub struct Piece<'a> {
     pub sign: Sign,
@@ -56,6 +58,7 @@ fn sign_of(text: &str) -> Result<Sign, Refusal> {
         "|" => Ok(Sign::Line),
         "+" => Ok(Sign::Part),
         ">" => Ok(Sign::Output),
+        "!" => Ok(Sign::Error),
         "=" => Ok(Sign::Printed),
         "<" => Ok(Sign::FileLine),
         "-" => Ok(Sign::FilePart),
