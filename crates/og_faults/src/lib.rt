@@ -13,4 +13,5 @@ mod lines;
 mod stop;
 
 pub use fault::Fault;
+pub use lines::kind_word;
 pub use stop::{Stop, fault_of, status_of};

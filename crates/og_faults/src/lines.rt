@@ -146,8 +146,8 @@ pub fn rows_line(alloc: Global, statement: usize, said: u64, found: u64) -> Resu
     Ok(line)
 }
 
-// The word of a kind.
-fn kind_word(kind: Kind) -> &'static str
+/// The word of a kind, as a script has it.
+pub fn kind_word(kind: Kind) -> &'static str
     ensures { result.now ≡ spec.kind_word kind }
 {
     match kind {

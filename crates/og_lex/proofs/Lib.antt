@@ -8,6 +8,5 @@ pub mod Parts
 pub mod Quotes
 pub mod Runs
 pub mod Scripts
-pub mod Starts
 pub mod Symbols
 pub mod Tokens

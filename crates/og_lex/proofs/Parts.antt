@@ -13,7 +13,7 @@ use Rattle.og_lex.specs.declared.token.TokenKind.TheVariants.{Sym}
 use Rattle.og_lex.specs.Faults.{IsRefusal, IsRefusalFrom}
 use Rattle.og_lex.specs.Front.{front, refusal_at}
 use Rattle.og_lex.specs.Grammar.{Reads}
-use Rattle.og_lex.specs.Starts.{EndsStatement, is_semicolon}
+use Rattle.og_lex.specs.Endings.{EndsStatement, is_semicolon}
 use Rattle.og_lex.proofs.Lexing.{token_at}
 use Rattle.og_lex.proofs.Meanings.{Means, IsSkipped, means-front}
 use Rattle.og_lex.proofs.Runs.{drop-joined}

@@ -2,4 +2,4 @@ pub mod Bytes
 pub mod Faults
 pub mod Front
 pub mod Grammar
-pub mod Starts
+pub mod Endings

@@ -3,13 +3,14 @@ ghost use Rattle.std.specs.Prelude.{◌≡◌, ◌⊎◌, ◌+◌, ◌++◌, ◌
 ghost use Rattle.og_lex.specs.Faults.{IsRefusal, IsRefusalFrom};
 ghost use Rattle.og_lex.specs.Front as spec;
 ghost use Rattle.og_lex.specs.Grammar.{IsLexed, Reads};
-ghost use Rattle.og_lex.specs.Starts.{EndsStatement};
+ghost use Rattle.og_lex.specs.Endings as endings;
+ghost use Rattle.og_lex.specs.Endings.{EndsStatement};
 ghost use Rattle.og_lex.specs.declared.token.Token.{Token};
 
 use crate::front::{Front, front_of};
 use crate::refusal::{LexRefusal, refusal_at};
-use crate::start::is_semicolon;
-use crate::token::Token;
+use crate::symbol::Symbol;
+use crate::token::{Token, TokenKind};
 use std::alloc::Global;
 
 /// Cuts a script into its tokens, each the longest at its place. Spaces, tabs, line feeds, carriage
@@ -103,4 +104,11 @@ fn take_piece(z: &[u8], at: usize, tokens: &mut Vec<Token>) -> Result<Taken, Lex
         }
         Front::Bad(fault) => Err(refusal_at(fault, at)),
     }
+}
+
+// Whether the token is a semicolon.
+fn is_semicolon(kind: TokenKind) -> bool
+    ensures { result ≡ endings.is_semicolon kind }
+{
+    matches!(kind, TokenKind::Sym(Symbol::Semicolon))
 }

@@ -4,8 +4,7 @@
 //! specs/Grammar.antt), or refuses with exactly their first fault and its place (`IsFirstFault` in
 //! specs/Faults.antt), or for want of memory; `lex_part` gives those of some statements, from any place
 //! on (`Reads`). `text_of` gives the content of a text (`IsTextAt`), and `has_text` says where there is
-//! one; `start_after` gives the offset at which a statement begins (specs/Starts.antt). The laws say
-//! that a script has one list of tokens or one first fault, not both (`one_list_a_script`,
+//! one. The laws say that a script has one list of tokens or one first fault, not both (`one_list_a_script`,
 //! `tokens_or_a_fault`), that each token is the longest at its place (`longest_token`), and where
 //! tokens lie (`tokens_of_a_script`).
 //!
@@ -19,7 +18,6 @@ mod numeral;
 mod quote;
 mod refusal;
 mod run;
-mod start;
 mod symbol;
 mod token;
 
@@ -27,6 +25,5 @@ pub use laws::{longest_token, one_list_a_script, tokens_of_a_script, tokens_or_a
 pub use lexer::{lex, lex_part};
 pub use quote::{Unquoted, has_text, text_of};
 pub use refusal::LexRefusal;
-pub use start::start_after;
 pub use symbol::Symbol;
 pub use token::{Token, TokenKind};

@@ -3,7 +3,7 @@ use Rattle.std.proofs.Common.{◌≡◌, ◌⊎◌, inl, inr, ◌++◌, ◌+◌,
 use Rattle.std.proofs.Math.Seq.{drop-length}
 use Rattle.std.proofs.lemmas.List.{length-map, map-append}
 use Rattle.og_lex.specs.Grammar.{IsLexed, Reads}
-use Rattle.og_lex.specs.Starts.{EndsStatement}
+use Rattle.og_lex.specs.Endings.{EndsStatement}
 use Rattle.og_lex.specs.declared.symbol.Symbol.TheVariants.{Semicolon}
 use Rattle.og_lex.specs.declared.token.Token.{Token}
 use Rattle.og_lex.specs.declared.token.TokenKind.TheVariants.{Sym}
@@ -102,7 +102,7 @@ unfolding lexeme_of same_sort
 semicolon-sort script token e = ap (λ kind. same_sort (lexeme_by script token kind).sort k.Semicolon) e
 
 -- tokens are cut after a part of them that ends with a semicolon, and where no others follow
-cut-semicolon : (script : List ℕ) (tokens rest : List Token) → EndsStatement tokens → pieces (lexemes_of script (tokens ++ rest)) ≡ pieces (lexemes_of script tokens) ++ pieces (lexemes_of script rest)
+pub cut-semicolon : (script : List ℕ) (tokens rest : List Token) → EndsStatement tokens → pieces (lexemes_of script (tokens ++ rest)) ≡ pieces (lexemes_of script tokens) ++ pieces (lexemes_of script rest)
 cut-semicolon script tokens rest (before, last, e, is) =
     let front : lexemes_of script tokens ≡ lexemes_of script before ++ lexeme_of script last ∷ [] = ap (lexemes_of script) e ∙ map-append (lexeme_of script) before (last ∷ []) in
     ap pieces (map-append (lexeme_of script) tokens rest)

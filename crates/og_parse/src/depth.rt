@@ -10,7 +10,8 @@ use og_syntax::{Lexeme, Sort, same_sort};
 /// and INTERSECT together, of a statement.
 pub const MAX_DEPTH: usize = 100;
 
-// Whether the lexemes are too deep.
+/// Whether the lexemes are too deep: more than `MAX_DEPTH` parentheses are open at once, or they have more words NOT,
+/// or more words UNION, EXCEPT and INTERSECT together.
 #[tactic(auto, unfolding(crate::specs::Depth::is_too_deep))]
 pub fn is_too_deep(lexemes: &[Lexeme]) -> bool
     ensures { result ≡ spec.is_too_deep lexemes.now }

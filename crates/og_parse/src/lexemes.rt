@@ -8,7 +8,7 @@ use og_lex::{Symbol, Token, TokenKind};
 use og_syntax::{Lexeme, Sort, bytes_of, same_sort, sort_of_word};
 
 /// Makes the list that of the lexemes of the first piece of the tokens, which ends with its semicolon or with
-/// the last token.
+/// the last token. Refused only where memory runs out.
 pub fn next_piece(script: &[u8], tokens: &[Token], piece: &mut Vec<Lexeme>) -> Result<(), NoMemory>
     ensures piece { OnOk result (piece.new.items ≡ piece_of (spec.lexemes_of script.now tokens.now)) }
     ensures within { OnOk result (length piece.new.items ≤ length tokens.now) }

@@ -1,6 +1,8 @@
 //! Pieces, each a statement or none.
 ghost use Rattle.std.specs.Prelude.{◌≡◌, true, false, IfOk, IfErr};
+ghost use Rattle.og_syntax.specs.declared.tree.Stmt as trees;
 ghost use Rattle.og_syntax.specs.Reading.{by};
+ghost use Rattle.og_parse.specs.Statements.{IsWhole};
 ghost use Rattle.og_parse.specs.Whole.{GivesAll};
 ghost use Rattle.og_parse.specs.Script.{IsGood, IsNone, HasFault, OrNoMemory};
 ghost use Rattle.og_parse.specs.Depth.{is_too_deep};
@@ -9,6 +11,7 @@ ghost use Rattle.og_parse.specs.StatementReader.{whole};
 use crate::depth::is_too_deep;
 use crate::refusal::ParseRefusal;
 use crate::statement::statement;
+use og_base::NoMemory;
 use og_syntax::{Lexeme, Literals, Reading, Refusal, Stmt};
 use std::alloc::Global;
 
@@ -34,6 +37,27 @@ pub fn read_piece(
         Ok(stmt) => Ok(stmt),
         Err(Refusal::Syntax) => Err(fault_of(alloc, script, piece, number)),
         Err(Refusal::NoMemory) => Err(ParseRefusal::NoMemory),
+    }
+}
+
+/// Whether the lexemes are a statement with its semicolon, in which any text may stand for each literal. Refused only
+/// where memory runs out.
+pub fn is_statement(alloc: Global, script: &[u8], piece: &[Lexeme]) -> Result<bool, NoMemory>
+    ensures some { IfOk result (λ b. b ≡ true → (x : trees.Stmt) × IsWhole script.now false piece.now x) }
+    ensures none { IfOk result (λ b. b ≡ false → IsNone script.now false piece.now) }
+{
+    let leniently = Reading {
+        alloc,
+        script,
+        literals: Literals::Lenient,
+    };
+    match whole(&leniently, piece) {
+        Ok(stmt) => {
+            drop(stmt);
+            Ok(true)
+        }
+        Err(Refusal::Syntax) => Ok(false),
+        Err(Refusal::NoMemory) => Err(NoMemory),
     }
 }
 

@@ -1,6 +1,6 @@
 pub mod CommandLemmas
+pub mod KeptLemmas
 pub mod LiveScripts
-pub mod PlaceLemmas
 pub mod ScriptLemmas
 pub mod Scripts
 pub mod TurnLemmas

@@ -1,6 +1,6 @@
 pub mod Commands
 pub mod LiveTexts
-pub mod Places
+pub mod Kept
 pub mod Reading
 pub mod Scripts
 pub mod Stops

@@ -7,7 +7,7 @@ ghost use Rattle.og_words.specs.declared.command.Command.TheVariants as commands
 ghost use Rattle.og_faults.specs.Counts.{IsFaultCount, is_read_fault};
 ghost use Rattle.og_script.specs.Stops.{IsRunCommand, IsScriptStop, IsSourceOf, IsStopBefore};
 ghost use Rattle.og_script.specs.LiveTexts.{IsLiveStmt};
-ghost use Rattle.og_script.specs.Places.{IsKeptAt};
+ghost use Rattle.og_script.specs.Kept.{IsKeptAt};
 ghost use Rattle.og_script.specs.Scripts.{IsScript, IsScriptOf, max_source};
 
 use crate::commands::{at_statements, load_statements};
@@ -61,7 +61,7 @@ pub fn script_of<S: Source>(
 }
 
 // The statements of the source, which is read to its end.
-#[tactic(auto, using(crate::proofs::PlaceLemmas::kept_unread, crate::proofs::PlaceLemmas::kept_whole))]
+#[tactic(auto, using(crate::proofs::KeptLemmas::kept_unread, crate::proofs::KeptLemmas::kept_whole))]
 fn read_script<S: Source>(
     alloc: Global,
     src: &mut S,

@@ -7,6 +7,7 @@ pub mod DropNames
 pub mod DropSteps
 pub mod DropViews
 pub mod EndLemmas
+pub mod EndedLemmas
 pub mod FileLemmas
 pub mod FollowLemmas
 pub mod GrownLemmas
@@ -17,7 +18,6 @@ pub mod LiveSteps
 pub mod NameLemmas
 pub mod NameSteps
 pub mod OneRun
-pub mod PlaceLemmas
 pub mod PieceLemmas
 pub mod QueryLemmas
 pub mod RunLemmas

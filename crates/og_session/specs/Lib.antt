@@ -1,10 +1,10 @@
 pub mod Answers
 pub mod Contents
+pub mod Ended
 pub mod Ends
 pub mod Following
 pub mod Headline
 pub mod Lives
 pub mod Names
 pub mod Output
-pub mod Places
 pub mod Runs

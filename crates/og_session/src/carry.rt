@@ -8,7 +8,7 @@ ghost use Rattle.og_db.specs.Runs.{stored};
 ghost use Rattle.og_words.specs.Grammar.{IsCommand};
 ghost use Rattle.og_faults.specs.Counts.{IsAbsenceCount, IsFaultCount, is_file_fault, is_read_fault, is_write_fault};
 ghost use Rattle.og_script.specs.LiveTexts.{IsLiveStmt};
-ghost use Rattle.og_script.specs.Places.{IsKeptAt};
+ghost use Rattle.og_script.specs.Kept.{IsKeptAt};
 ghost use Rattle.og_session.specs.Contents.{AreContents, Contents};
 ghost use Rattle.og_session.specs.Ends.{EndsUnreported, EndsWith, IsEndOf, RunEnds};
 ghost use Rattle.og_session.specs.Headline.{HasGrown};

@@ -10,7 +10,7 @@
 //! the scripts of `at` and `load` in Commands.antt of og_script. Of a source or of files that do not tell their
 //! bytes it says far less (docs/PROOFS.md, "The headline").
 //!
-//! `run_located` is `run` with the place of the fault in the script (`IsEndedAt` in specs/Places.antt).
+//! `run_located` is `run` with what stopped it and the bytes of the script (`IsEndedBy` in specs/Ended.antt).
 //!
 //! No tests here: the cases run it, each in many ways, and the gate runs the program over examples/ and
 //! .ci/runs/.

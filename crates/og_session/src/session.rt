@@ -1,17 +1,17 @@
 //! The top call: the words, the source and the files in, the output, the files, the database and the exit
 //! status out.
-ghost use Rattle.std.specs.Prelude.{◌≡◌, [], ◌∷◌, ℕ, List, Some, None, OnOk, IfErr};
+ghost use Rattle.std.specs.Prelude.{◌≡◌, [], ◌∷◌, ℕ, List, Some, OnOk, IfErr};
 ghost use Rattle.std.specs.Io.KnownBytes.{Appends};
 ghost use Rattle.og_io.specs.Folders.{Folder};
 ghost use Rattle.og_faults.specs.Counts.{IsAbsenceCount, IsFaultCount, is_file_fault, is_read_fault, is_unput, is_write_fault};
-ghost use Rattle.og_faults.specs.Faults.{fault_line, status_of};
+ghost use Rattle.og_faults.specs.Faults.{status_of};
 ghost use Rattle.og_faults.specs.declared.fault.Fault.{Fault};
 ghost use Rattle.og_faults.specs.declared.stop.Stop.{Stop};
 ghost use Rattle.og_output.specs.Puts.{IsPut};
-ghost use Rattle.og_script.specs.Places.{IsKeptAt};
+ghost use Rattle.og_script.specs.Kept.{IsKeptAt};
+ghost use Rattle.og_session.specs.Ended.{IsEndedBy};
 ghost use Rattle.og_session.specs.Ends.{Ends, EndsWith, IsEndOf};
 ghost use Rattle.og_session.specs.Headline.{HasGrown, Headline};
-ghost use Rattle.og_session.specs.Places.{IsEndedAt};
 ghost use Rattle.og_session.specs.Runs.{IsDefinedRun, IsRun, Run};
 
 use crate::carry::carry_out;
@@ -22,7 +22,6 @@ use og_faults::{Stop, fault_of, status_of};
 use og_io::{Files, Sink, Source};
 use og_output::put_fault;
 use og_par::{Gate, OpenGate};
-use og_script::{Place, place_of_end};
 use std::alloc::Global;
 use std::thread::Threads;
 
@@ -31,10 +30,10 @@ use std::thread::Threads;
 pub struct Ended {
     /// The exit status.
     pub status: u8,
+    /// What stopped the run, if it did not come to its end.
+    pub end: Result<(), Stop>,
     /// The bytes of the source, where the command is `run` and they were read.
     pub script: Vec<u8>,
-    /// The place of the fault in the script.
-    pub place: Option<Place>,
 }
 
 /// Runs the command that the words are over a database without names: `run` reads the source to its
@@ -117,7 +116,7 @@ pub fn run_gated<H: Threads + Sync, S: Source, K: Sink, F: Files, G: Gate + Sync
     run_located(rt, alloc, words, src, out, files, db, gate).status
 }
 
-/// The same, with the place of the fault in the script.
+/// The same, with what stopped the run and the bytes of its script.
 pub fn run_located<H: Threads + Sync, S: Source, K: Sink, F: Files, G: Gate + Sync>(
     rt: &H,
     alloc: Global,
@@ -149,19 +148,19 @@ pub fn run_located<H: Threads + Sync, S: Source, K: Sink, F: Files, G: Gate + Sy
       status = result.status;
     }) }
     ensures untouched { ¬ IsRun words.now → src.new ≡ src.old }
-    ensures place { (source : List ℕ) (start : Folder) (run : Run) → IsRun words.now → S.left src.old ≡ Some source → F.folder files.old ≡ Some start → IsDefinedRun words.now source start run →
-        IsEndedAt source run.line result }
-    ensures no_place { ¬ IsRun words.now → result.place ≡ None }
+    ensures end { result.status ≡ status_of result.end }
+    ensures fault { (source : List ℕ) (start : Folder) (run : Run) → IsRun words.now → S.left src.old ≡ Some source → F.folder files.old ≡ Some start → IsDefinedRun words.now source start run →
+        IsEndedBy source run.line result }
+    ensures no_script { ¬ IsRun words.now → result.script.items ≡ [] }
 {
     one_defined_run();
     let mut script = Vec::new(alloc);
     let end = run_to_end(rt, alloc, words, src, out, files, db, gate, &mut script);
-    let place = place_of_end(script.as_slice(), &end);
     let status = status_of(&end);
     Ended {
         status,
+        end,
         script,
-        place,
     }
 }
 

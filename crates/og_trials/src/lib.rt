@@ -16,6 +16,7 @@ mod noted;
 mod program;
 mod queries;
 mod report;
+mod told;
 mod trial;
 mod ways;
 

@@ -102,8 +102,8 @@ pub fn ran_gated<H: Threads + Sync + AllocGlobal, G: Gate + Sync>(
     })
 }
 
-// The words of the case, and after them the option of the workers that are asked for.
-fn words_of(alloc: Global, case: &Case, workers: Option<u8>) -> Result<Words, NoMemory> {
+/// The words of the case, and after them the option of the workers that are asked for.
+pub fn words_of(alloc: Global, case: &Case, workers: Option<u8>) -> Result<Words, NoMemory> {
     let mut words = Words::new(alloc);
     for word in &case.words {
         words.add(word.as_str())?;

@@ -6,6 +6,7 @@ use crate::failing::{try_files, try_sinks, try_sources};
 use crate::meeting::try_meeting;
 use crate::queries::ask_queries;
 use crate::report::Report;
+use crate::told::try_told;
 use crate::trial::{Outcome, Setting, ran};
 use og_base::NoMemory;
 use og_case_files::{Case, Refusal};
@@ -39,6 +40,7 @@ pub fn try_case<H: Threads + Sync + AllocGlobal>(
     if !is_well {
         return Ok(());
     }
+    try_told(rt, case, report)?;
     match ways {
         Ways::Once if case.has_own_script() && case.leaves_workers() => {
             try_meeting(rt, case, report)

@@ -6,10 +6,11 @@ ghost use Rattle.std.specs.Prelude.{◌≡◌, ◌++◌, OnOk, drop, map, string
 
 use og_base::{NoMemory, Words};
 use og_db::Db;
-use og_io::{FolderFiles, StdSink, StdSource};
+use og_faults::Stop;
+use og_io::{Files, FolderFiles, StdSink, StdSource};
 use og_par::OpenGate;
-use og_script::place_line;
-use og_session::{Ended, run_located};
+use og_report::{Scene, report};
+use og_session::run_located;
 use std::env;
 use std::env::{Args, Env};
 use std::io::{Eprint, ErrorKind};
@@ -39,21 +40,42 @@ fn main(rt: HostRuntime) -> ExitCode {
                 &mut db,
                 &OpenGate,
             );
-            tell_place(&rt, &ended);
+            if let Err(stop) = &ended.end {
+                let scene = Scene {
+                    script: ended.script.as_slice(),
+                    words: &words,
+                    db: &db,
+                    read: files.bytes(),
+                };
+                tell(&rt, &scene, stop);
+            }
             ExitCode::from(ended.status)
         }
-        Err(status) => ExitCode::from(status),
+        Err(status) => {
+            let _ = rt.eprint(cause_of(status));
+            ExitCode::from(status)
+        }
     }
 }
 
-// Writes to standard error where in the script the fault of the run stands, if it does. Nothing depends on whether
-// it can be written.
-fn tell_place(rt: &(impl Eprint + AllocGlobal), ended: &Ended) {
-    let Some(place) = ended.place else {
-        return;
-    };
-    if let Ok(line) = place_line(rt.alloc(), ended.script.as_slice(), place) {
-        let _ = rt.eprint(line.as_str());
+// Writes to standard error what stopped the run. Nothing depends on whether it can be written.
+fn tell(rt: &(impl Eprint + AllocGlobal), scene: &Scene<'_>, stop: &Stop) {
+    match report(rt.alloc(), scene, stop) {
+        Ok(text) => {
+            let _ = rt.eprint(text.as_str());
+        }
+        Err(_) => {
+            let _ = rt.eprint("out of memory\n");
+        }
+    }
+}
+
+// Why the words could not be read, where the run ends with that status.
+fn cause_of(status: u8) -> &'static str {
+    if status == NO_MEMORY {
+        "out of memory\n"
+    } else {
+        "the words of the command line could not be read\n"
     }
 }
 

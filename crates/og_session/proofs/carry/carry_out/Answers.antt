@@ -6,8 +6,8 @@ use Rattle.og_script.specs.Scripts.{IsScriptOf}
 use Rattle.og_session.specs.Ends.{EndsUnreported}
 use Rattle.og_session.specs.Runs.{run_from}
 use Rattle.og_session.proofs.EndLemmas.{end_late, end_script, end_words, late_read, run_command, run_end, run_words, script_end, words_end}
-use Rattle.og_script.proofs.PlaceLemmas.{kept_whole}
-use Rattle.og_session.proofs.PlaceLemmas.{kept_words}
+use Rattle.og_script.proofs.KeptLemmas.{kept_whole}
+use Rattle.og_session.proofs.EndedLemmas.{kept_words}
 use Rattle.og_session.proofs.StateLemmas.{state_at_start}
 use Rattle.og_session.proofs.GrownLemmas.{grown_none}
 use Rattle.og_session.proofs.carry.carry_out.Goals as goal

@@ -4,7 +4,7 @@ use Rattle.og_faults.specs.declared.stop.Stop.{Stop}
 use Rattle.og_session.specs.Ends.{Ends, EndsUnreported}
 use Rattle.og_session.proofs.EndLemmas.{end_unput, reported, unfaulted, unsaid}
 use Rattle.og_session.proofs.GrownLemmas.{grown_by_put, grown_more}
-use Rattle.og_session.proofs.PlaceLemmas.{kept_put}
+use Rattle.og_session.proofs.EndedLemmas.{kept_put}
 use Rattle.og_session.proofs.session.run_to_end.Goals as goal
 
 pub returns-in_default-clause-told : goal.returns-in_default-clause-told

@@ -1,0 +1,3 @@
+pub mod BadLemmas
+pub mod DeepLemmas
+pub mod PieceLemmas
