@@ -23,6 +23,7 @@ mod refusal;
 mod rows;
 mod saved;
 mod table;
+mod told;
 mod write;
 
 pub use bad_records::{BadRecord, bad_record, bad_saved_record};

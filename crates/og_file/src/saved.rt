@@ -13,8 +13,10 @@ use crate::header::{count_of, schema_of};
 use crate::records::{read_next, reader_of};
 use crate::refusal::FileRefusal;
 use crate::rows::{row_one, row_two};
+use crate::told::Told;
 use csv::{ByteRecord, Reader};
 use og_base::NoMemory;
+use og_progress::Progress;
 use og_rel::Rel;
 use og_value::{CellRefusal, Row, Schema};
 use std::alloc::Global;
@@ -30,8 +32,12 @@ pub struct Saved {
 /// exactly where the first record is missing or of neither form, or is `ongq:2` and the second is missing or
 /// not of its form; else `Cell` with the number of the first record that is not of its form, or with the
 /// next number where the last record of version 2 is missing; else `RowCount` where the file says another
-/// number of rows than it has.
-pub fn read_saved(alloc: Global, bytes: &[u8]) -> Result<Saved, FileRefusal>
+/// number of rows than it has. `progress` is told how many bytes are read.
+pub fn read_saved<P: Progress>(
+    alloc: Global,
+    bytes: &[u8],
+    progress: &P,
+) -> Result<Saved, FileRefusal>
     ensures file { IfOk result (λ saved. IsSavedFile bytes.now saved.schema saved.rel) }
     ensures fault { IfErr result (IsSavedFault bytes.now) }
 {
@@ -40,10 +46,11 @@ pub fn read_saved(alloc: Global, bytes: &[u8]) -> Result<Saved, FileRefusal>
     if !read_next(&mut reader, &mut fields)? {
         return Err(FileRefusal::Header);
     }
+    let told = Told::new(progress, bytes.len());
     if is_mark(&fields) {
-        version_two(alloc, &mut reader, &mut fields)
+        version_two(alloc, &mut reader, &mut fields, &told)
     } else {
-        version_one(alloc, &mut reader, &mut fields)
+        version_one(alloc, &mut reader, &mut fields, &told)
     }
 }
 
@@ -61,10 +68,11 @@ pub(crate) fn is_mark(fields: &ByteRecord) -> bool
 }
 
 // The file of version 1 whose first record was read.
-fn version_one(
+fn version_one<P: Progress>(
     alloc: Global,
     reader: &mut Reader<&[u8]>,
     fields: &mut ByteRecord,
+    told: &Told<'_, P>,
 ) -> Result<Saved, FileRefusal>
     ensures file { IfOk result (λ saved. (bytes : List ℕ) → HasRead bytes (fields_of fields.old ∷ []) reader.old → fields_of fields.old ≢ mark → IsSavedFile bytes saved.schema saved.rel) }
     ensures fault { IfErr result (λ e. (bytes : List ℕ) → HasRead bytes (fields_of fields.old ∷ []) reader.old → fields_of fields.old ≢ mark → IsSavedFault bytes e) }
@@ -72,15 +80,16 @@ fn version_one(
     let Some((schema, said)) = header_of(alloc, fields)? else {
         return Err(FileRefusal::Header);
     };
-    let rel = rows_one(alloc, &schema, reader, fields)?;
+    let rel = rows_one(alloc, &schema, reader, fields, told)?;
     counted(schema, rel, said)
 }
 
 // The file of version 2 whose first record was read.
-fn version_two(
+fn version_two<P: Progress>(
     alloc: Global,
     reader: &mut Reader<&[u8]>,
     fields: &mut ByteRecord,
+    told: &Told<'_, P>,
 ) -> Result<Saved, FileRefusal>
     ensures file { IfOk result (λ saved. (bytes : List ℕ) → HasRead bytes (mark ∷ []) reader.old → IsSavedFile bytes saved.schema saved.rel) }
     ensures fault { IfErr result (λ e. (bytes : List ℕ) → HasRead bytes (mark ∷ []) reader.old → IsSavedFault bytes e) }
@@ -91,7 +100,7 @@ fn version_two(
     let Some(schema) = schema_of(alloc, fields, fields.len())? else {
         return Err(FileRefusal::Header);
     };
-    let (rel, said) = rows_two(alloc, &schema, reader, fields)?;
+    let (rel, said) = rows_two(alloc, &schema, reader, fields, told)?;
     counted(schema, rel, said)
 }
 
@@ -119,11 +128,12 @@ pub(crate) fn header_of(
 }
 
 // The rows of version 1, behind the header that was read.
-fn rows_one(
+fn rows_one<P: Progress>(
     alloc: Global,
     schema: &Schema,
     reader: &mut Reader<&[u8]>,
     fields: &mut ByteRecord,
+    told: &Told<'_, P>,
 ) -> Result<Rel<Row>, FileRefusal>
     ensures rows { IfOk result (λ rel. (bytes : List ℕ) (header : Record) → HasRead bytes (header ∷ []) reader.old → HasRowsOne bytes header schema.now rel) }
     ensures fault { IfErr result (λ e. (bytes : List ℕ) (header : Record) (count : ℕ) → HasRead bytes (header ∷ []) reader.old → IsHeader header schema.now count → IsSavedFault bytes e) }
@@ -133,6 +143,7 @@ fn rows_one(
         if !read_next(reader, fields)? {
             return Ok(rel);
         }
+        told.tell_read(rel.len(), reader);
         add_one(alloc, schema, fields, number, &mut rel)?;
     }
     Err(FileRefusal::NoMemory)
@@ -157,11 +168,12 @@ fn add_one(
 }
 
 // The rows of version 2, behind the header that was read, and the number of rows that the last record says.
-fn rows_two(
+fn rows_two<P: Progress>(
     alloc: Global,
     schema: &Schema,
     reader: &mut Reader<&[u8]>,
     fields: &mut ByteRecord,
+    told: &Told<'_, P>,
 ) -> Result<(Rel<Row>, u64), FileRefusal>
     ensures rows { IfOk result (λ r. (bytes : List ℕ) (header : Record) → HasRead bytes (mark ∷ header ∷ []) reader.old → HasRowsTwo bytes header schema.now r.0 r.1) }
     ensures fault { IfErr result (λ e. (bytes : List ℕ) (header : Record) → HasRead bytes (mark ∷ header ∷ []) reader.old → AreSchema header schema.now → IsSavedFault bytes e) }
@@ -178,6 +190,7 @@ fn rows_two(
             }
             return Ok((rel, said));
         }
+        told.tell_read(rel.len(), reader);
         add_two(alloc, schema, fields, number, &mut rel)?;
     }
     Err(FileRefusal::NoMemory)

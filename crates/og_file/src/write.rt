@@ -9,28 +9,41 @@ ghost use Rattle.og_file.specs.SavedFile.{IsVersionTwo, kind_word};
 ghost use Rattle.og_file.specs.Writers.{HasText, HasFields};
 ghost use Rattle.og_file.specs.Writing.{IsOfKinds, IsReadAgain, column_text, count_text, days_text, records_of, row_record};
 
+use crate::told::Told;
 use csv::{Error, Writer, WriterBuilder};
 use og_base::{NoMemory, RtSet, write_rt};
+use og_progress::Progress;
 use og_rel::Rel;
 use og_value::{Column, Kind, Row, Schema, Value, write_cell};
 use std::alloc::Global;
 
 /// The saved file of version 2 of the relation (docs/FORMATS.md, "Saved files"): as many rows, each on
-/// its days. Refused only for want of memory.
-pub fn write_saved(alloc: Global, schema: &Schema, rel: &Rel<Row>) -> Result<Vec<u8>, NoMemory>
+/// its days. `progress` is told how many rows are written. Refused only where memory runs out.
+pub fn write_saved<P: Progress>(
+    alloc: Global,
+    schema: &Schema,
+    rel: &Rel<Row>,
+    progress: &P,
+) -> Result<Vec<u8>, NoMemory>
     requires fits { All (λ p. IsOfKinds schema.now p.0) rel.now }
     ensures { IfOk result (λ bytes. IsVersionTwo bytes.items schema.now rel.now (length rel.now)) }
 {
     schema.bounded();
     rel.some_days();
-    match saved_records(alloc, schema, rel) {
+    let told = Told::new(progress, rel.len());
+    match saved_records(alloc, schema, rel, &told) {
         Ok(text) => Ok(text),
         Err(_) => Err(NoMemory),
     }
 }
 
 // The text of the records, or the error of the writer, which is want of memory.
-fn saved_records(alloc: Global, schema: &Schema, rel: &Rel<Row>) -> Result<Vec<u8>, Error>
+fn saved_records<P: Progress>(
+    alloc: Global,
+    schema: &Schema,
+    rel: &Rel<Row>,
+    told: &Told<'_, P>,
+) -> Result<Vec<u8>, Error>
     ensures text { IfOk result (λ v. v.items ≡ rows_text (records_of schema.now rel.now)) }
     ensures words { IfOk result (λ _. All (λ c. IsLowerWord c.name) schema.now) }
     ensures cells { IfOk result (λ _. All (λ p. All IsReadAgain p.0) rel.now) }
@@ -42,7 +55,7 @@ fn saved_records(alloc: Global, schema: &Schema, rel: &Rel<Row>) -> Result<Vec<u
     let mut field = Vec::new(alloc);
     writer.write_fields(&[b"ongq:2"])?;
     write_columns(&mut writer, schema, &mut field)?;
-    write_rows(&mut writer, rel, &mut field)?;
+    write_rows(&mut writer, rel, &mut field, told)?;
     write_count(alloc, &mut writer, rel.len())?;
     text_of(writer)
 }
@@ -102,16 +115,18 @@ fn kind_word(kind: Kind) -> &'static [u8]
 }
 
 // Writes the record of each row.
-fn write_rows(
+fn write_rows<P: Progress>(
     writer: &mut Writer<Vec<u8>>,
     rel: &Rel<Row>,
     field: &mut Vec<u8>,
+    told: &Told<'_, P>,
 ) -> Result<(), Error>
     ensures text { OnOk result ((records : List (List (List ℕ))) → HasText writer.old (rows_text records) →
         HasText writer.new (rows_text (records ++ map row_record rel.now))) }
     ensures cells { OnOk result (All (λ p. All IsReadAgain p.0) rel.now) }
 {
     'rows: for i in 0..rel.len() {
+        told.tell_written(i);
         write_row(writer, rel.row(i), rel.days(i), field)?;
     }
     Ok(())

@@ -22,6 +22,7 @@ use og_db::{Db, no_statements};
 use og_faults::Stop;
 use og_io::{Files, Sink, Source};
 use og_par::Gate;
+use og_progress::Progress;
 use og_script::{script_of, turned, workers_of};
 use og_syntax::Stmt;
 use og_words::read_words;
@@ -31,7 +32,7 @@ use std::thread::Threads;
 
 /// Runs the command that the words are over a database without names, and writes what it prints, up to
 /// the line of a fault. The bytes of the source are kept in `script`.
-pub fn carry_out<H: Threads + Sync, S: Source, K: Sink, F: Files, G: Gate + Sync>(
+pub fn carry_out<H: Threads + Sync, S: Source, K: Sink, F: Files, G: Gate + Progress + Sync>(
     rt: &H,
     alloc: Global,
     words: &Words,
@@ -67,7 +68,7 @@ pub fn carry_out<H: Threads + Sync, S: Source, K: Sink, F: Files, G: Gate + Sync
 
 // Runs the statements in order, up to the first with a fault. Each is gone once it is
 // carried out.
-fn run_statements<H: Threads + Sync, K: Sink, F: Files, G: Gate + Sync>(
+fn run_statements<H: Threads + Sync, K: Sink, F: Files, G: Gate + Progress + Sync>(
     rt: &H,
     alloc: Global,
     stmts: Items<Stmt>,
@@ -97,7 +98,7 @@ fn run_statements<H: Threads + Sync, K: Sink, F: Files, G: Gate + Sync>(
 }
 
 // The same, over the names that they leave.
-fn run_all<H: Threads + Sync, K: Sink, F: Files, G: Gate + Sync>(
+fn run_all<H: Threads + Sync, K: Sink, F: Files, G: Gate + Progress + Sync>(
     rt: &H,
     alloc: Global,
     stmts: Items<Stmt>,
@@ -121,7 +122,9 @@ fn run_all<H: Threads + Sync, K: Sink, F: Files, G: Gate + Sync>(
 {
     no_statements();
     let mut left = turned(alloc, stmts)?;
+    let count = left.len();
     'stmts: for place in 0..left.len() {
+        gate.begin(place + 1, count);
         step(
             rt,
             alloc,

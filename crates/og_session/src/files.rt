@@ -27,6 +27,7 @@ use og_file::{
 };
 use og_io::{Files, Found};
 use og_par::Gate;
+use og_progress::Progress;
 use og_query::Typed;
 use og_rel::Tables;
 use og_value::{Catalog, Name, Row, Text};
@@ -35,12 +36,13 @@ use std::alloc::Global;
 use std::thread::Threads;
 
 /// Writes what the name holds to the file.
-pub fn save<F: Files>(
+pub fn save<F: Files, P: Progress>(
     alloc: Global,
     name: &Name,
     file: &Text,
     files: &mut F,
     names: &Names,
+    progress: &P,
 ) -> Result<(), Stop>
     requires { IsFit (known_of names.now.names) (t.Save name.now file.now) }
     ensures ends { (start : Folder) (n : ℕ) (before : List Effect) → IsHeldState start before names.now (F.folder files.old) →
@@ -57,19 +59,20 @@ pub fn save<F: Files>(
     let Some(rel) = names.rel(name.bytes()) else {
         unreachable!();
     };
-    let bytes = write_saved(alloc, schema, rel)?;
+    let bytes = write_saved(alloc, schema, rel, progress)?;
     files.write(file, bytes.as_slice())?;
     Ok(())
 }
 
 /// Keeps what the file holds under the name, which is new, at the statement with that number.
-pub fn open<F: Files>(
+pub fn open<F: Files, P: Progress>(
     alloc: Global,
     number: usize,
     name: Name,
     file: Text,
     files: &mut F,
     names: &mut Names,
+    progress: &P,
 ) -> Result<(), Stop>
     requires { IsFit (known_of names.old.names) (t.OpenFile name file) }
     ensures ends { (start : Folder) (contents : Contents) → AreContents start contents → (before : List Effect) → IsHeldState start before names.old (F.folder files.old) →
@@ -89,14 +92,14 @@ pub fn open<F: Files>(
             file,
         }));
     }
-    match read_saved(alloc, files.bytes()) {
+    match read_saved(alloc, files.bytes(), progress) {
         Ok(saved) => Ok(names.keep(name, saved.schema, saved.rel)?),
         Err(refusal) => Err(Stop::of_bytes(number, refusal)),
     }
 }
 
 /// Inserts the rows of the file into the table, at the statement with that number.
-pub fn import<H: Threads + Sync, F: Files, G: Gate + Sync>(
+pub fn import<H: Threads + Sync, F: Files, G: Gate + Progress + Sync>(
     rt: &H,
     alloc: Global,
     number: usize,
@@ -133,7 +136,7 @@ pub fn import<H: Threads + Sync, F: Files, G: Gate + Sync>(
         unreachable!();
     };
     column_names_are_words(schema);
-    match read_table(alloc, schema, files.bytes()) {
+    match read_table(alloc, schema, files.bytes(), gate) {
         Ok(rows) => Ok(insert(rt, alloc, name, rows, workers, names, gate)?),
         Err(refusal) => Err(Stop::of_bytes(number, refusal)),
     }

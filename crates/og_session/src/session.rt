@@ -22,6 +22,7 @@ use og_faults::{Stop, fault_of, status_of};
 use og_io::{Files, Sink, Source};
 use og_output::put_fault;
 use og_par::{Gate, OpenGate};
+use og_progress::{Progress, Unwatched};
 use std::alloc::Global;
 use std::thread::Threads;
 
@@ -113,11 +114,12 @@ pub fn run_gated<H: Threads + Sync, S: Source, K: Sink, F: Files, G: Gate + Sync
     }) }
     ensures untouched { ¬ IsRun words.now → src.new ≡ src.old }
 {
-    run_located(rt, alloc, words, src, out, files, db, gate).status
+    let gate = Unwatched::new(gate);
+    run_located(rt, alloc, words, src, out, files, db, &gate).status
 }
 
-/// The same, with what stopped the run and the bytes of its script.
-pub fn run_located<H: Threads + Sync, S: Source, K: Sink, F: Files, G: Gate + Sync>(
+/// The same, with what stopped the run and the bytes of its script. The gate is also told how far the run is.
+pub fn run_located<H: Threads + Sync, S: Source, K: Sink, F: Files, G: Gate + Progress + Sync>(
     rt: &H,
     alloc: Global,
     words: &Words,
@@ -165,7 +167,7 @@ pub fn run_located<H: Threads + Sync, S: Source, K: Sink, F: Files, G: Gate + Sy
 }
 
 // Carries out the command, and writes the line of its fault, if it has one.
-fn run_to_end<H: Threads + Sync, S: Source, K: Sink, F: Files, G: Gate + Sync>(
+fn run_to_end<H: Threads + Sync, S: Source, K: Sink, F: Files, G: Gate + Progress + Sync>(
     rt: &H,
     alloc: Global,
     words: &Words,

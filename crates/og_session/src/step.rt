@@ -24,6 +24,7 @@ use og_db::known_names;
 use og_faults::Stop;
 use og_io::{Files, Sink};
 use og_par::Gate;
+use og_progress::Progress;
 use og_query::Typed;
 use og_syntax::Stmt;
 use std::alloc::Global;
@@ -33,7 +34,7 @@ use std::thread::Threads;
 /// checks it, writes what it prints, and carries it out. Where it is stopped the tables, the kept
 /// results and the files are as they were, but for a file that was to be written where the files failed, and a front of
 /// what it prints was written.
-pub fn step<H: Threads + Sync, K: Sink, F: Files, G: Gate + Sync>(
+pub fn step<H: Threads + Sync, K: Sink, F: Files, G: Gate + Progress + Sync>(
     rt: &H,
     alloc: Global,
     number: usize,
@@ -64,7 +65,7 @@ pub fn step<H: Threads + Sync, K: Sink, F: Files, G: Gate + Sync>(
 }
 
 // The same of a statement that was taken.
-fn carried<H: Threads + Sync, K: Sink, F: Files, G: Gate + Sync>(
+fn carried<H: Threads + Sync, K: Sink, F: Files, G: Gate + Progress + Sync>(
     rt: &H,
     alloc: Global,
     number: usize,
@@ -95,7 +96,7 @@ fn carried<H: Threads + Sync, K: Sink, F: Files, G: Gate + Sync>(
 }
 
 // Carries out a statement that passed its checks, and writes what it prints.
-fn done<H: Threads + Sync, K: Sink, F: Files, G: Gate + Sync>(
+fn done<H: Threads + Sync, K: Sink, F: Files, G: Gate + Progress + Sync>(
     rt: &H,
     alloc: Global,
     number: usize,
@@ -119,8 +120,8 @@ fn done<H: Threads + Sync, K: Sink, F: Files, G: Gate + Sync>(
     ensures absences { IsAbsenceCount result (F.absences files.old) (F.absences files.new) }
 {
     match typed {
-        Typed::Save { name, file } => save(alloc, &name, &file, files, names),
-        Typed::OpenFile { name, file } => open(alloc, number, name, file, files, names),
+        Typed::Save { name, file } => save(alloc, &name, &file, files, names, gate),
+        Typed::OpenFile { name, file } => open(alloc, number, name, file, files, names, gate),
         Typed::ImportFile { name, file } => import(
             rt, alloc, number, &name, file, workers, files, names, gate,
         ),

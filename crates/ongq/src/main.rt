@@ -4,17 +4,25 @@
 
 ghost use Rattle.std.specs.Prelude.{◌≡◌, ◌++◌, OnOk, drop, map, string_bytes};
 
+mod cleared;
+mod meter;
+
+use crate::cleared::ClearedSink;
+use crate::meter::{Meter, watch};
 use og_base::{NoMemory, Words};
 use og_db::Db;
 use og_faults::Stop;
-use og_io::{Files, FolderFiles, StdSink, StdSource};
-use og_par::OpenGate;
+use og_io::{Files, FolderFiles, Sink, Source, StdSink, StdSource};
+use og_par::{Gate, OpenGate};
+use og_progress::Progress;
 use og_report::{Scene, report};
 use og_session::run_located;
-use std::env;
 use std::env::{Args, Env};
-use std::io::{Eprint, ErrorKind};
+use std::io::{Eprint, ErrorKind, IsTerminal};
 use std::process::ExitCode;
+use std::thread::Threads;
+use std::time::Clock;
+use std::{env, fs, thread};
 
 // The exit status where memory ran out for the words.
 const NO_MEMORY: u8 = 9;
@@ -24,38 +32,82 @@ const NO_WORDS: u8 = 10;
 
 fn main(rt: HostRuntime) -> ExitCode {
     let mut words = Words::new(rt.alloc());
-    match read_words(&rt, &mut words) {
-        Ok(()) => {
-            let mut src = StdSource::new(rt.stdin());
-            let mut out = StdSink::new(rt.stdout());
-            let mut files = FolderFiles::new(&rt, rt.alloc());
-            let mut db = Db::new(rt.alloc());
-            let ended = run_located(
-                &rt,
-                rt.alloc(),
-                &words,
-                &mut src,
-                &mut out,
-                &mut files,
-                &mut db,
-                &OpenGate,
-            );
-            if let Err(stop) = &ended.end {
-                let scene = Scene {
-                    script: ended.script.as_slice(),
-                    words: &words,
-                    db: &db,
-                    read: files.bytes(),
-                };
-                tell(&rt, &scene, stop);
-            }
-            ExitCode::from(ended.status)
-        }
-        Err(status) => {
-            let _ = rt.eprint(cause_of(status));
-            ExitCode::from(status)
-        }
+    if let Err(status) = read_words(&rt, &mut words) {
+        let _ = rt.eprint(cause_of(status));
+        return ExitCode::from(status);
     }
+    let src = StdSource::new(rt.stdin());
+    let mut out = StdSink::new(rt.stdout());
+    if rt.stderr().is_terminal() && may_show(&rt) {
+        return ExitCode::from(run_shown(&rt, &words, src, out));
+    }
+    ExitCode::from(run_and_tell(&rt, &words, src, &mut out, &OpenGate))
+}
+
+// Whether a line may be written over on the terminal: NO_COLOR is not set, and TERM is not dumb.
+fn may_show(rt: &(impl Env + AllocGlobal)) -> bool {
+    let has_colors = match env::var(rt, "NO_COLOR") {
+        Ok(value) => value.is_empty(),
+        Err(_) => true,
+    };
+    let is_dumb = match env::var(rt, "TERM") {
+        Ok(value) => value.as_str() == "dumb",
+        Err(_) => false,
+    };
+    has_colors && !is_dumb
+}
+
+// Carries out the command that the words are, while another thread shows on the terminal how far it is.
+fn run_shown<R, S: Source, K: Sink>(rt: &R, words: &Words, src: S, out: K) -> u8
+where
+    R: Threads + Sync + AllocGlobal + fs::Files + Clock + Eprint,
+    S: Drop,
+    K: Drop,
+{
+    let meter = Meter::new(rt);
+    let mut out = ClearedSink::new(&meter, out);
+    let show = || watch(&meter);
+    let run = || run_and_tell(rt, words, src, &mut out, &meter);
+    let ((), status) = thread::join(rt, show, run);
+    status
+}
+
+// Carries out the command that the words are, and tells what stopped it.
+fn run_and_tell<R, S: Source, K: Sink, G: Gate + Progress + Sync>(
+    rt: &R,
+    words: &Words,
+    src: S,
+    out: &mut K,
+    gate: &G,
+) -> u8
+where
+    R: Threads + Sync + AllocGlobal + fs::Files + Eprint,
+    S: Drop,
+{
+    let mut src = src;
+    let mut files = FolderFiles::new(rt, rt.alloc());
+    let mut db = Db::new(rt.alloc());
+    let ended = run_located(
+        rt,
+        rt.alloc(),
+        words,
+        &mut src,
+        out,
+        &mut files,
+        &mut db,
+        gate,
+    );
+    gate.end();
+    if let Err(stop) = &ended.end {
+        let scene = Scene {
+            script: ended.script.as_slice(),
+            words,
+            db: &db,
+            read: files.bytes(),
+        };
+        tell(rt, &scene, stop);
+    }
+    ended.status
 }
 
 // Writes to standard error what stopped the run. Nothing depends on whether it can be written.

@@ -7,12 +7,12 @@ use Rattle.og_file.proofs.SavedLemmas.{count_more, fault_one}
 use Rattle.og_file.proofs.saved.rows_one.Goals as goal
 
 pub returns-then-not-branch-clause-rows : goal.returns-then-not-branch-clause-rows
-returns-then-not-branch-clause-rows c = λ bytes header has.
+returns-then-not-branch-clause-rows g c = λ bytes header has.
     let inv = c.records.invariant in
     (inv.0, rw c.if-not-branch.true at (c.in_ok-read_next.ensures bytes (header ∷ inv.0) (inv.3 bytes header has)), inv.1)
 
 pub returns-in_err-add_one-clause-fault : goal.returns-in_err-add_one-clause-fault
-returns-in_err-add_one-clause-fault c =
+returns-in_err-add_one-clause-fault g c =
     let inv = c.records.invariant in
     let fields = fields_of c.read_next.new.fields in
     let given = err_from_is_err_and c.from_residual-in_err-add_one.result c.from_residual-in_err-add_one.ensures.1 in
@@ -21,7 +21,7 @@ returns-in_err-add_one-clause-fault c =
     (begins bytes (header ∷ inv.0 ++ fields ∷ []) c.read_next.new.reader (rw c.if-not-branch.false at (c.in_ok-read_next.ensures bytes (header ∷ inv.0) (inv.3 bytes header has)))))
 
 pub records-preserved : goal.records-preserved
-records-preserved c =
+records-preserved g c =
     let inv = c.records.invariant in
     let fields = fields_of c.read_next.new.fields in
     let added = c.in_ok-add_one.ensures.added in (

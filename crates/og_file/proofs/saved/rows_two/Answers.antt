@@ -8,13 +8,13 @@ use Rattle.og_file.proofs.SavedLemmas.{count_more, fault_two, late_record}
 use Rattle.og_file.proofs.saved.rows_two.Goals as goal
 
 pub returns-then-not-branch-clause-fault : goal.returns-then-not-branch-clause-fault
-returns-then-not-branch-clause-fault c = λ bytes header has schema.
+returns-then-not-branch-clause-fault g c = λ bytes header has schema.
     let inv = c.records.invariant in
     let all = rw c.if-not-branch.true at (c.in_ok-read_next.ensures bytes (mark ∷ header ∷ inv.0) (inv.3 bytes header has)) in
     inr (inr (header, inv.0, c.args.schema.now, c.records.rel, all, schema, inv.1, inv.2))
 
 pub returns-then-branch-clause-fault : goal.returns-then-branch-clause-fault
-returns-then-branch-clause-fault c = λ bytes header has schema.
+returns-then-branch-clause-fault g c = λ bytes header has schema.
     let inv = c.records.invariant in
     let fields = fields_of c.read_next.new.fields in
     let next = fields_of c.read_next-in-Some.new.fields in
@@ -25,7 +25,7 @@ returns-then-branch-clause-fault c = λ bytes header has schema.
     (begins bytes (mark ∷ header ∷ inv.0 ++ fields ∷ next ∷ []) c.read_next-in-Some.new.reader (rw (append_assoc (mark ∷ header ∷ inv.0) (fields ∷ []) (next ∷ [])) at second))
 
 pub returns-in-Some-clause-rows : goal.returns-in-Some-clause-rows
-returns-in-Some-clause-rows c = λ bytes header has.
+returns-in-Some-clause-rows g c = λ bytes header has.
     let inv = c.records.invariant in
     let fields = fields_of c.read_next.new.fields in
     let first = rw c.if-not-branch.false at (c.in_ok-read_next.ensures bytes (mark ∷ header ∷ inv.0) (inv.3 bytes header has)) in
@@ -34,7 +34,7 @@ returns-in-Some-clause-rows c = λ bytes header has.
     (inv.0, end.0, subst (λ r. AreAll bytes (mark ∷ header ∷ inv.0 ++ r ∷ [])) end.1 all, inv.1, end.2)
 
 pub returns-in_err-add_two-clause-fault : goal.returns-in_err-add_two-clause-fault
-returns-in_err-add_two-clause-fault c =
+returns-in_err-add_two-clause-fault g c =
     let inv = c.records.invariant in
     let fields = fields_of c.read_next.new.fields in
     let given = err_from_is_err_and c.from_residual-in_err-add_two.result c.from_residual-in_err-add_two.ensures.1 in
@@ -43,7 +43,7 @@ returns-in_err-add_two-clause-fault c =
     (begins bytes (mark ∷ header ∷ inv.0 ++ fields ∷ []) c.read_next.new.reader (rw c.if-not-branch.false at (c.in_ok-read_next.ensures bytes (mark ∷ header ∷ inv.0) (inv.3 bytes header has)))))
 
 pub records-preserved : goal.records-preserved
-records-preserved c =
+records-preserved g c =
     let inv = c.records.invariant in
     let fields = fields_of c.read_next.new.fields in
     let added = c.in_ok-add_two.ensures.added in (

@@ -6,12 +6,12 @@ use Rattle.og_file.proofs.TableLemmas.{next_row, begins, first_fault}
 use Rattle.og_file.proofs.table.table_rows.Goals as goal
 
 pub returns-then-not-branch-clause-rows : goal.returns-then-not-branch-clause-rows
-returns-then-not-branch-clause-rows c = λ bytes names has named.
+returns-then-not-branch-clause-rows g c = λ bytes names has named.
     let inv = c.records.invariant in
     (names, inv.0, rw c.if-not-branch.true at (c.in_ok-read_next.ensures bytes (names ∷ inv.0) (inv.2 bytes names has)), named, inv.1)
 
 pub returns-in_err-row-clause-fault : goal.returns-in_err-row-clause-fault
-returns-in_err-row-clause-fault c =
+returns-in_err-row-clause-fault g c =
     let inv = c.records.invariant in
     let fields = fields_of c.read_next.new.fields in
     let given = err_from_is_err_and c.from_residual-in_err-row.result c.from_residual-in_err-row.ensures.1 in
@@ -20,7 +20,7 @@ returns-in_err-row-clause-fault c =
     (begins bytes (names ∷ inv.0 ++ fields ∷ []) c.read_next.new.reader (rw c.if-not-branch.false at (c.in_ok-read_next.ensures bytes (names ∷ inv.0) (inv.2 bytes names has)))))
 
 pub records-preserved : goal.records-preserved
-records-preserved c =
+records-preserved g c =
     let inv = c.records.invariant in
     let fields = fields_of c.read_next.new.fields in (
       inv.0 ++ fields ∷ [],

@@ -5,6 +5,6 @@ use Rattle.og_file.specs.TableFile.{AreCells}
 use Rattle.og_file.proofs.table.table_rows.Given as goal
 
 abbrev pub invariant-records : goal.invariant-records
-invariant-records l =
+invariant-records g l =
     (records : List Record) × Each (AreCells l.schema) records l.rows.items
     × ((bytes : List ℕ) (names : Record) → HasRead bytes (names ∷ []) l.fn.reader → HasRead bytes (names ∷ records) l.reader)

@@ -9,7 +9,7 @@ use Rattle.og_file.proofs.WriteLemmas.{new_writer, record_written, rows_push}
 use Rattle.og_file.proofs.write.saved_records.Goals as goal
 
 pub returns-clause-text : goal.returns-clause-text
-returns-clause-text c =
+returns-clause-text g c =
     let from = c.from_writer-writer.ensures in
     let start = new_writer c.from_writer-writer.result c.new-2.result c.new-2.ensures.items from.wtr from.empty (from.cfg ∙ c.flexible.ensures ∙ ap (λ b. with_flexible b true) c.new.ensures) from.fields from.wrote in
     let e = c.write_fields.ensures in

@@ -9,13 +9,13 @@ use Rattle.og_file.proofs.WriteLemmas.{all_next, all_of, fields_all, fields_next
 use Rattle.og_file.proofs.write.write_rows.Goals as goal
 
 pub rows-init : goal.rows-init
-rows-init c = (
+rows-init g c = (
   λ records had. subst (λ rows. HasText c.args.writer.now (rows_text rows)) (sym (append-nil records)) had,
   All-nil (λ p. All IsReadAgain p.0),
 )
 
 pub rows-preserved : goal.rows-preserved
-rows-preserved c =
+rows-preserved g c =
     let i = c.rows.i in
     let pair : Pair = (c.row.result.now, c.days.result.now) in
     let at = pair_at c.args.rel.now i c.row.result.now c.days.result.now (search rules) c.row.ensures c.days.ensures in
@@ -28,7 +28,7 @@ rows-preserved c =
     )
 
 pub returns-clause-text : goal.returns-clause-text
-returns-clause-text c = λ records had. rw (fields_all row_record c.args.rel.now c.rows.i (search rules)) at (c.rows.invariant.0 records had)
+returns-clause-text g c = λ records had. rw (fields_all row_record c.args.rel.now c.rows.i (search rules)) at (c.rows.invariant.0 records had)
 
 pub returns-clause-cells : goal.returns-clause-cells
-returns-clause-cells c = all_of (λ p. All IsReadAgain p.0) c.args.rel.now c.rows.i (search rules) c.rows.invariant.1
+returns-clause-cells g c = all_of (λ p. All IsReadAgain p.0) c.args.rel.now c.rows.i (search rules) c.rows.invariant.1

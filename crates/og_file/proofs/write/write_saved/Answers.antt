@@ -4,7 +4,7 @@ use Rattle.og_file.proofs.ReadBackLemmas.{saved_file}
 use Rattle.og_file.proofs.write.write_saved.Goals as goal
 
 pub returns-in-Ok : goal.returns-in-Ok
-returns-in-Ok c =
+returns-in-Ok g c =
     let columns = c.args.schema.now in
     let rel = c.args.rel.now in
     let made = c.in-Ok.ensures in
