@@ -12,7 +12,7 @@ SELECT b.id, p.pid,
 FROM bugs b JOIN patch p ON b.comp = p.comp;
 
 -- patches r
-SELECT b.id, p.pid, b.days * p.days * overlaps(b.vt, p.vt) AS days
+SELECT b.id, p.pid, b.days * p.days * contains(b.vt, read_point('now')) * contains(p.vt, read_point('now')) AS days
 FROM bugs b JOIN patch p ON b.comp = p.comp;
 
 -- contracts so_far
