@@ -102,19 +102,32 @@ def files(test: Any) -> list[str]:
     return saved + [test.file(name) for name in ("all_forms.csv", "case_4.csv", "case_10.csv", "case_11.csv")]
 
 
+def try_drawing(test: Any, path: str) -> None:
+    """A lane for each row; the same bytes each time; a name, plain words and colours for a dark reader; no date or period cut."""
+    saved, drawn, text = ongq.read(path), draw(path), draw(path, "--text")
+    tree = xml.etree.ElementTree.fromstring(drawn)
+    texts = [(node.get("class"), node.text) for node in tree.iter("{http://www.w3.org/2000/svg}text")]
+    test.same("drawings", f"lanes of {path}", len(saved.entries), sum(sort == "name" for sort, _ in texts))
+    test.same("drawings", f"lanes of {path}, drawn again", drawn, draw(path))
+    test.same("drawings", f"title of {path}", ("title", os.path.basename(path)[:-4]), texts[0])
+    test.same("drawings", f"legend of {path}", True, ("small", "the row is there on these days") in texts)
+    test.same("drawings", f"dark colours of {path}", True, "prefers-color-scheme: dark" in drawn)
+    first = [line for line in text.rsplit("\n\n", 1)[0].splitlines()[3:] if not line.startswith("  ")]
+    test.same("drawings", f"lanes of {path} as text", True, len(first) <= len(saved.entries))
+    cut = [str(value) for row, _ in saved.entries for value in row if isinstance(value, tuple) and str(value) not in text]
+    test.same("drawings", f"dates and periods of {path} as text", [], cut)
+
+
 def try_drawings(test: Any) -> None:
-    """Each drawing has a lane for each row, and the SVG is well formed; that of README.md is what is drawn today."""
+    """The drawings of each file; that of docs/SCALE.md is what is drawn today."""
     due = f"{answers.TOP}/docs/due"
     with open(f"{due}.csv", encoding="utf-8") as table, open(f"{due}.svg", encoding="utf-8") as drawn:
         test.same("drawings", "docs/due.csv is the result of examples/contracts.ongq", test.text("due.due.csv"), table.read())
         test.same("drawings", "docs/due.svg is drawn of it", draw(f"{due}.csv"), drawn.read())
     for path in files(test):
-        rows = len(ongq.read(path).entries)
-        tree = xml.etree.ElementTree.fromstring(draw(path))
-        names = [node for node in tree.iter("{http://www.w3.org/2000/svg}text") if node.get("class") == "name"]
-        test.same("drawings", f"lanes of {path}", rows, len(names))
-        first = [line for line in draw(path, "--text").splitlines()[2:-1] if not line.startswith("  ")]
-        test.same("drawings", f"lanes of {path} as text", True, len(first) <= rows)
+        try_drawing(test, path)
+    titled = draw(test.file("all_forms.csv"), "--title", "<Forms> & more")
+    test.same("drawings", "a title that is asked for", "<Forms> & more", xml.etree.ElementTree.fromstring(titled)[0].text)
 
 
 def try_page(test: Any, program: str) -> None:
