@@ -41,7 +41,7 @@ HARNESS = """<!DOCTYPE html><meta charset="utf-8"><pre id="found"></pre><script>
 const asked = %s, found = {};
 function shown(page) {
     const texts = row => [...row.querySelectorAll("[role=cell]")].map(cell => cell.textContent);
-    return [...page.querySelectorAll("[role=row]")].map(texts);
+    return [...page.querySelectorAll("#rows [role=row]")].map(texts);
 }
 function ask(page, name, value) {
     page.getElementById(name).value = value;
@@ -60,6 +60,32 @@ for (const [file, days] of Object.entries(asked)) {
     document.body.append(frame);
 }
 </script>"""
+
+# Moves the day of a page by keys, asks for rows by words, and writes the day and the number of rows that are shown then.
+KEYS = """<!DOCTYPE html><meta charset="utf-8"><pre id="found"></pre><script>
+const frame = document.createElement("iframe"), found = [];
+frame.width = 1200; frame.height = 600; frame.src = "many.html#2026-01-31";
+frame.onload = () => {
+    const page = frame.contentDocument, at = name => page.getElementById(name);
+    const press = (key, shiftKey, target) => {
+        target.dispatchEvent(new KeyboardEvent("keydown", { key, shiftKey, bubbles: true }));
+        found.push(at("day").value);
+    };
+    for (const [key, shift, name] of %s) press(key, shift, name ? at(name) : page.body);
+    for (const words of %s) {
+        at("filter").value = words;
+        at("filter").dispatchEvent(new Event("input"));
+        found.push(at("count").textContent);
+    }
+    at("list").scrollTop = 1e6;
+    found.push(page.querySelectorAll("#rows [role=row]").length <= 30);
+    document.getElementById("found").textContent = JSON.stringify(found);
+};
+document.body.append(frame);
+</script>"""
+PRESSED = [("ArrowRight", False, "", "2026-02-01"), ("ArrowLeft", False, "slider", "2026-01-31"), ("ArrowRight", True, "list", "2026-02-28"),
+           ("ArrowLeft", True, "", "2026-01-28"), ("ArrowLeft", False, "day", "2026-01-28"), ("ArrowRight", True, "filter", "2026-01-28")]
+WORDS, MANY = ["", "ROW 17", " nothing"], 2000
 
 
 def browser() -> Optional[str]:
@@ -130,6 +156,18 @@ def try_drawings(test: Any) -> None:
     test.same("drawings", "a title that is asked for", "<Forms> & more", xml.etree.ElementTree.fromstring(titled)[0].text)
 
 
+def try_keys(test: Any, program: str) -> None:
+    """The keys and the box for words of a page with many rows, of which it draws those in sight alone."""
+    rows = "".join(f'{number},row,"[2026-01-01,now)",*\n' for number in range(MANY))
+    test.put("many.csv", f"ongq:2\nid:INT,name:TEXT,vt:PERIOD\n{rows}rows:{MANY}\n")
+    test.put("many.html", draw(test.file("many.csv"), "--html"))
+    test.put("keys.html", KEYS % (json.dumps([one[:3] for one in PRESSED]), json.dumps(WORDS)))
+    shown = [" ".join(map(str, row)) for row in ongq.read(test.file("many.csv")).rows(PRESSED[-1][3])]
+    counts = [sum(all(word in row for word in words.lower().split()) for row in shown) for words in WORDS]
+    wanted = [one[3] for one in PRESSED] + [f"{count:,} of {MANY:,} rows" if count < MANY else f"{MANY:,} rows" for count in counts]
+    test.same("keys and words of the page", "all", [*wanted, True], found_by(test, program, "keys.html"))
+
+
 def try_page(test: Any, program: str) -> None:
     """The page shows on each day what ongq prints, by the field, and by the slider where it reaches."""
     asked, wanted = {}, {}
@@ -142,11 +180,12 @@ def try_page(test: Any, program: str) -> None:
         output = answers.run(test.program, test.folder, f"{answers.MARK}OPEN r FROM 'f';\n{answers.prints('r', days)}")
         wanted[f"page_{number}.html"] = (path, answers.printed(output, days))
     test.put("harness.html", HARNESS % json.dumps(asked))
-    compare(test, wanted, found_by(test, program))
+    compare(test, wanted, found_by(test, program, "harness.html"))
+    try_keys(test, program)
 
 
-def found_by(test: Any, program: str) -> dict:
-    parts = re.search('<pre id="found">(.*?)</pre>', dom_of(program, "file://" + test.file("harness.html")), re.DOTALL)
+def found_by(test: Any, program: str, name: str) -> Any:
+    parts = re.search('<pre id="found">(.*?)</pre>', dom_of(program, "file://" + test.file(name)), re.DOTALL)
     return json.loads(html.unescape(parts[1]) or "{}") if parts else {}
 
 
