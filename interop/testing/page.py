@@ -1,4 +1,4 @@
-"""The drawings, and the page in a real browser."""
+"""The drawings, and the page in a real browser; docs/cases compares the pictures of the documents."""
 from __future__ import annotations
 
 import glob
@@ -17,6 +17,7 @@ import answers
 from answers import ongq
 
 DAYS = 20
+drawing = answers.command("draw")
 
 # One row of each form of a period and a date, of which some are there on some days alone.
 ALL_FORMS = """CREATE TABLE x (id INT, name TEXT, due DATE, vt PERIOD);
@@ -30,7 +31,8 @@ INSERT INTO x VALUES
     (7, '</script>', ONGOING '-infinity', PERIOD '[2026-03-01,2026-02-01)'),
     (7, 'x', ONGOING 'now', PERIOD '[now,infinity)'),
     (7, 'x', ONGOING '2026-01-01+', PERIOD '[now,infinity)'),
-    (8, 'y', ONGOING '-000044-03-15', PERIOD '[-009999-01-01,9999-12-31)');
+    (8, 'y', ONGOING '-000044-03-15', PERIOD '[-009999-01-01,9999-12-31)'),
+    (9, 'z', ONGOING '+2026-01-01', PERIOD '[2026-02-01+2026-05-01,2026-03-01+2026-06-01)');
 DELETE FROM x WHERE id < 6 AND ONGOING 'now' >= DATE '2026-06-15';
 DELETE FROM x WHERE name = 'B' AND ONGOING 'now' >= DATE '2026-02-01' AND ONGOING 'now' < DATE '2026-02-20';
 SAVE x TO 'all_forms.csv';
@@ -128,16 +130,54 @@ def files(test: Any) -> list[str]:
     return saved + [test.file(name) for name in ("all_forms.csv", "case_4.csv", "case_10.csv", "case_11.csv")]
 
 
+def try_drawn_files(test: Any) -> None:
+    """What the pictures of the documents are drawn of is what the examples save today; docs/cases compares the pictures."""
+    saves = "SAVE bugs TO 'bugs.csv'; SAVE patch TO 'patch.csv';"
+    with open(f"{answers.TOP}/examples/patches.ongq", encoding="utf-8") as script:
+        answers.run(test.program, test.folder, script.read() + saves)
+    for name, saved in (("due", "due.due.csv"), ("bugs", "bugs.csv"), ("patch", "patch.csv")):
+        with open(f"{answers.TOP}/docs/{name}.csv", encoding="utf-8") as file:
+            test.same("drawings", f"docs/{name}.csv is what its example saves", test.text(saved), file.read())
+
+
+def shown_on(shapes: list, day: int) -> list[tuple[int, int]]:
+    """The days from start to end that the shapes of a period show as of a day, where there are any."""
+    found = []
+    for shape in shapes:
+        half = len(shape) // 2
+        starts, ends = ({asked: at for asked, at in side} for side in (shape[:half], shape[half:]))
+        first = max((asked for asked in starts if asked <= day), default=None)
+        last = min((asked for asked in starts if asked >= day), default=None)
+        if first is not None and last is not None:
+            span = tuple(side[first] + (day - first) * (side[last] > side[first]) for side in (starts, ends))
+            found += [span] if span[0] < span[1] else []
+    return found
+
+
+def try_shapes(test: Any, path: str) -> None:
+    """The shapes of a period show on each day just the days that it has."""
+    for row in drawing.rows_of(0, ongq.read(path)):
+        if row.period:
+            marked = [day for point in row.period for day in point if ongq.FIRST <= day <= ongq.LAST] or [ongq.Day(20000)]
+            near = sorted({day + step for day in marked for step in (-9, -1, 0, 1, 9)})
+            days = [ongq.Day(day) for day in near if ongq.FIRST <= day <= ongq.LAST]
+            shapes = drawing.corners(row.period, days[0], days[-1])
+            for day in days:
+                span = row.period.at(day)
+                test.same("shapes", f"{row.label} of {path}, as of {day}", [tuple(span)] if span.start < span.end else [], shown_on(shapes, day))
+
+
 def try_drawing(test: Any, path: str) -> None:
     """A lane for each row; the same bytes each time; a name, plain words and colours for a dark reader; no date or period cut."""
-    saved, drawn, text = ongq.read(path), draw(path), draw(path, "--text")
+    saved, drawn, asked, text = ongq.read(path), draw(path), draw(path, "--asked"), draw(path, "--text")
     tree = xml.etree.ElementTree.fromstring(drawn)
     texts = [(node.get("class"), node.text) for node in tree.iter("{http://www.w3.org/2000/svg}text")]
     test.same("drawings", f"lanes of {path}", len(saved.entries), sum(sort == "name" for sort, _ in texts))
-    test.same("drawings", f"lanes of {path}, drawn again", drawn, draw(path))
+    test.same("drawings", f"lanes of {path}, drawn again", (drawn, asked), (draw(path), draw(path, "--asked")))
     test.same("drawings", f"title of {path}", ("title", os.path.basename(path)[:-4]), texts[0])
     test.same("drawings", f"legend of {path}", True, ("small", "the row is there on these days") in texts)
-    test.same("drawings", f"dark colours of {path}", True, "prefers-color-scheme: dark" in drawn)
+    test.same("drawings", f"dark colours of {path}", True, "prefers-color-scheme: dark" in drawn and "prefers-color-scheme: dark" in asked)
+    test.same("drawings", f"what is asked of {path}", "{http://www.w3.org/2000/svg}svg", xml.etree.ElementTree.fromstring(asked).tag)
     first = [line for line in text.rsplit("\n\n", 1)[0].splitlines()[3:] if not line.startswith("  ")]
     test.same("drawings", f"lanes of {path} as text", True, len(first) <= len(saved.entries))
     cut = [str(value) for row, _ in saved.entries for value in row if isinstance(value, tuple) and str(value) not in text]
@@ -145,13 +185,10 @@ def try_drawing(test: Any, path: str) -> None:
 
 
 def try_drawings(test: Any) -> None:
-    """The drawings of each file; that of docs/SCALE.md is what is drawn today."""
-    due = f"{answers.TOP}/docs/due"
-    with open(f"{due}.csv", encoding="utf-8") as table, open(f"{due}.svg", encoding="utf-8") as drawn:
-        test.same("drawings", "docs/due.csv is the result of examples/contracts.ongq", test.text("due.due.csv"), table.read())
-        test.same("drawings", "docs/due.svg is drawn of it", draw(f"{due}.csv"), drawn.read())
+    try_drawn_files(test)
     for path in files(test):
         try_drawing(test, path)
+        try_shapes(test, path)
     titled = draw(test.file("all_forms.csv"), "--title", "<Forms> & more")
     test.same("drawings", "a title that is asked for", "<Forms> & more", xml.etree.ElementTree.fromstring(titled)[0].text)
 
