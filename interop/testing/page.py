@@ -132,7 +132,8 @@ def files(test: Any) -> list[str]:
 
 def try_drawn_files(test: Any) -> None:
     """What the pictures of the documents are drawn of is what the examples save today; docs/cases compares the pictures."""
-    saves = "SAVE bugs TO 'bugs.csv'; SAVE patch TO 'patch.csv';"
+    far = "PERIOD(START(vt), LEAST(END(vt), ONGOING 'now')) AS so_far"
+    saves = f"KEEP b AS SELECT id, {far} FROM bugs; SAVE b TO 'bugs.csv'; KEEP p AS SELECT pid, {far} FROM patch; SAVE p TO 'patch.csv';"
     with open(f"{answers.TOP}/examples/patches.ongq", encoding="utf-8") as script:
         answers.run(test.program, test.folder, script.read() + saves)
     for name, saved in (("due", "due.due.csv"), ("bugs", "bugs.csv"), ("patch", "patch.csv")):
