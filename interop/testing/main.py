@@ -17,6 +17,7 @@ sys.dont_write_bytecode = True
 import answers  # noqa: E402
 import cases  # noqa: E402
 import page  # noqa: E402
+import scale  # noqa: E402
 import server  # noqa: E402
 import texts  # noqa: E402
 from answers import ongq  # noqa: E402
@@ -329,6 +330,7 @@ def try_all(test: Test, browser: Optional[str]) -> None:
     try_examples(test)
     try_all_cases(test)
     try_spoilt_files(test)
+    scale.try_scale(test)
     page.try_drawings(test)
     if browser:
         page.try_page(test, browser)
