@@ -1,0 +1,8 @@
+" How comments of ongq are written (docs/LANGUAGE.md, "Tokens").
+if exists('b:did_ftplugin')
+  finish
+endif
+let b:did_ftplugin = 1
+
+setlocal commentstring=--\ %s comments=:--
+let b:undo_ftplugin = 'setlocal commentstring< comments<'
