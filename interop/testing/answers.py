@@ -14,7 +14,7 @@ import sys
 HERE = os.path.dirname(os.path.realpath(__file__))
 INTEROP = os.path.dirname(HERE)
 TOP = os.path.dirname(INTEROP)
-sys.path.insert(0, INTEROP)
+sys.path.insert(0, f"{INTEROP}/python")
 import ongq  # noqa: E402
 
 Rows = list[list[str]]

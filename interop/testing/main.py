@@ -310,7 +310,7 @@ def try_unload(test: Test, postgres: server.Server) -> None:
 
 def try_pandas(test: Test) -> None:
     saved = ongq.read(f"{answers.TOP}/examples/imports.left/leads.csv")
-    frame = saved.frame("2026-01-15")
+    frame = saved.to_dataframe("2026-01-15")
     test.same("pandas", "its columns", [column.name for column in saved.columns], list(frame.columns))
     test.same("pandas", "its rows", saved.rows("2026-01-15"), [tuple(row) for row in frame.itertuples(index=False)])
 
@@ -341,7 +341,7 @@ def try_all(test: Test, browser: Optional[str]) -> None:
 def tell_left_out(postgres: Optional[server.Server], browser: Optional[str]) -> None:
     """Says by name what is not tried, as it is not on this machine."""
     there = {"PostgreSQL 15 or later that starts (initdb, psql): ongoing.sql, load and unload": postgres,
-             "Chromium that starts: the page of draw --html": browser, "pandas: frame of ongq.py": has_pandas()}
+             "Chromium that starts: the page of draw --html": browser, "pandas: to_dataframe of ongq": has_pandas()}
     for name, found in there.items():
         if not found:
             print(f"interop/test: left out, as it is not here: {name}", flush=True)

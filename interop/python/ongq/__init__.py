@@ -1,0 +1,25 @@
+"""ongq for Python, by the standard library of Python 3.9 alone; docs/INTEROP.md has examples.
+
+    saved = ongq.read("r.csv")             # a saved file of either version
+    saved.rows("2020-08-16")               # its rows as of a day, each once, in the order of PRINT
+    for row, days in saved.entries: ..     # the rows as they are kept, and the days on which each is there
+    saved.to_dataframe("2020-08-16")       # the rows as of a day, where pandas is there
+    ongq.write("s.csv", saved)             # version 2
+
+In a saved file INT is an int and TEXT a str. DATE is a Point, and a Day as of a day; PERIOD is a Period, and a Span as of a day. Each
+of these has as its str what ongq writes for it. A day is given as a Day, a datetime.date or a text as ongq spells it.
+"""
+from __future__ import annotations
+
+import pathlib
+
+from .days import (ALL_DAYS, FIRST, INFINITY, LAST, MINUS_INFINITY, Day, Days, Moment, Period, Point, Span, read_day, read_days,
+                   read_period, read_point, read_reference_day)
+from .saved import Column, Entry, Fault, Row, Saved, open_saved, read, scan, write
+
+__version__ = (pathlib.Path(__file__).parent / "VERSION").read_text(encoding="utf-8").strip()
+__all__ = [
+    "ALL_DAYS", "FIRST", "INFINITY", "LAST", "MINUS_INFINITY", "Column", "Day", "Days", "Entry", "Fault",
+    "Moment", "Period", "Point", "Row", "Saved", "Span",
+    "open_saved", "read", "read_day", "read_days", "read_period",
+    "read_point", "read_reference_day", "scan", "write"]
