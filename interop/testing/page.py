@@ -15,9 +15,9 @@ from typing import Any, Optional
 
 import answers
 from answers import ongq
+from ongq import drawing
 
 DAYS = 20
-drawing = answers.command("draw")
 
 # One row of each form of a period and a date, of which some are there on some days alone.
 ALL_FORMS = """CREATE TABLE x (id INT, name TEXT, due DATE, vt PERIOD);
