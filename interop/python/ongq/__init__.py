@@ -9,6 +9,8 @@
     result = ongq.run(script, folder="..")     # runs the program; a fault is an OngqError
     result[0].rows                             # what the first PRINT wrote
 
+    %load_ext ongq                         # in a notebook: a cell after %%ongq is a script
+
 In a saved file INT is an int and TEXT a str. DATE is a Point, and a Day as of a day; PERIOD is a Period, and a Span as of a day. Each
 of these has as its str what ongq writes for it. A day is given as a Day, a datetime.date or a text as ongq spells it.
 """
@@ -19,6 +21,7 @@ import pathlib
 from .days import (ALL_DAYS, FIRST, INFINITY, LAST, MINUS_INFINITY, Day, Days, Moment, Period, Point, Span, read_day, read_days,
                    read_period, read_point, read_reference_day)
 from .faults import CheckFault, DeviceFault, FileFault, MemoryFault, OngqError, Place, ScriptFault
+from .notebook import load_ipython_extension
 from .program import Result, Table, Value, find_program, run
 from .saved import Column, Entry, Fault, Row, Saved, open_saved, read, scan, write
 
@@ -26,5 +29,5 @@ __version__ = (pathlib.Path(__file__).parent / "VERSION").read_text(encoding="ut
 __all__ = [
     "ALL_DAYS", "FIRST", "INFINITY", "LAST", "MINUS_INFINITY", "CheckFault", "Column", "Day", "Days", "DeviceFault", "Entry", "Fault",
     "FileFault", "MemoryFault", "Moment", "OngqError", "Period", "Place", "Point", "Result", "Row", "Saved", "ScriptFault", "Span",
-    "Table", "Value", "find_program", "open_saved", "read", "read_day", "read_days", "read_period",
+    "Table", "Value", "find_program", "load_ipython_extension", "open_saved", "read", "read_day", "read_days", "read_period",
     "read_point", "read_reference_day", "run", "scan", "write"]
