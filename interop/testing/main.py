@@ -16,6 +16,7 @@ from typing import Optional
 sys.dont_write_bytecode = True
 import answers  # noqa: E402
 import cases  # noqa: E402
+import document  # noqa: E402
 import page  # noqa: E402
 import scale  # noqa: E402
 import server  # noqa: E402
@@ -315,8 +316,8 @@ def try_pandas(test: Test) -> None:
     test.same("pandas", "its rows", saved.rows("2026-01-15"), [tuple(row) for row in frame.itertuples(index=False)])
 
 
-def has_pandas() -> bool:
-    return importlib.util.find_spec("pandas") is not None
+def has_module(name: str) -> bool:
+    return importlib.util.find_spec(name) is not None
 
 
 def try_all(test: Test, browser: Optional[str]) -> None:
@@ -334,14 +335,16 @@ def try_all(test: Test, browser: Optional[str]) -> None:
     page.try_drawings(test)
     if browser:
         page.try_page(test, browser)
-    if has_pandas():
+    if has_module("pandas"):
         try_pandas(test)
+    document.try_document(test)
 
 
 def tell_left_out(postgres: Optional[server.Server], browser: Optional[str]) -> None:
     """Says by name what is not tried, as it is not on this machine."""
     there = {"PostgreSQL 15 or later that starts (initdb, psql): ongoing.sql, load and unload": postgres,
-             "Chromium that starts: the page of draw --html": browser, "pandas: to_dataframe of ongq": has_pandas()}
+             "Chromium that starts: the page of draw --html": browser, "pandas: to_dataframe of ongq": has_module("pandas"),
+             "IPython: cells of a notebook": has_module("IPython"), "mypy: the types of the package": shutil.which("mypy")}
     for name, found in there.items():
         if not found:
             print(f"interop/test: left out, as it is not here: {name}", flush=True)
