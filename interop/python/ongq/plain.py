@@ -23,10 +23,11 @@ PATTERNS = {
     "INT": "(-?[0-9]{1,19})",
     "TEXT": rf'({FIELD}|"(?:[^"\r\n]|"")*")',
     "DATE": f"({FIELD})",
-    "PERIOD": rf'"\[({FIELD}),({FIELD})\)"',
+    "PERIOD": r'"\[([^,]*),([^)]*)\)"',
 }
-# The two ends where there is one range, else the whole field.
-DAYS = rf'(?:"\{{\[({FIELD}),({FIELD})\)\}}"|({FIELD}|"[^"\r\n]*"))'
+# The two ends where there is one range, else the whole field. In an end any signs may stand here, as in one of a period: the
+# readers of days and points take no quotes and line ends.
+DAYS = rf'(?:"\{{\[([^,]*),([^)]*)\)\}}"|({FIELD}|"[^"\r\n]*"))'
 
 new_period: Callable[[tuple[Point, Point]], Period] = functools.partial(tuple.__new__, Period)  # type: ignore[assignment]
 
@@ -82,7 +83,7 @@ class PlainLines:
     def read(self, lines: list[str]) -> list[tuple[tuple[Any, ...], Days]]:
         """The rows of some lines, one at least; ValueError where one of them is not plain, or no row.
 
-        A match has one whole line, since no part of it has a line end. So all lines are plain where there are as many matches.
+        A match has one whole line, since no part that is read has a line end. So all are plain where there are as many matches.
         """
         found = self.pattern.findall("".join(lines))
         if len(found) != len(lines):

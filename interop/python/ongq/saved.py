@@ -19,7 +19,7 @@ Path = Union[str, "os.PathLike[str]"]
 Row = tuple[Any, ...]
 Entry = tuple[Row, Days]
 
-AT_ONCE = 64  # lines that are read together: few, so that they stay near the processor
+AT_ONCE = 128  # lines that are read together: few, so that they stay near the processor
 
 csv.field_size_limit(1 << 30)
 

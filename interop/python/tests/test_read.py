@@ -18,7 +18,8 @@ TEXTS = ["", "a", "a,b", 'say "x"', '"', "two\nlines", "rows:3", "*", "ongq:2", 
 SPOILT = ['5,"a,now,"[now,now)",*', "1,a,now", '9223372036854775808,a,now,"[now,now)",*', '1,a,now,"[now,now,now)",*', '1,a,now,"[now)",*',
           '1,a,now,"[now,now)","{[-infinity,infinity)}"', '1,a,now,"[now,now)","{[2026-01-02,2026-01-02)}"', '+1,a,now,"[now,now)",*',
           '1,a,soon,"[now,now)",*', '1,a,now,"[now,now)",{}', '1,a,now,"[now,now)","{[2026-01-01,2026-01-03),[2026-01-03,infinity)}"',
-          '1,a,now,"[now,now)",', '1,\udcff,now,"[now,now)",*', "rows:1"]
+          '1,a,now,"[now,now)",', '1,a,now,"[now,now)","{[2026-01-01,)}"', '1,a,now,"[now\n,now)",*', '1,a,now,"[now,now\n)",*',
+          '1,a,now,"[now,now)","{[2026-01-01\n,infinity)}"', '1,\udcff,now,"[now,now)",*', "rows:1"]
 
 
 class Files(unittest.TestCase):
@@ -65,7 +66,7 @@ class Read(Files):
     def test_a_spoilt_record_is_told_by_its_number(self) -> None:
         good = '1,"a, b",now,"[now,2026-01-01)",*\n'
         for spoilt in SPOILT:
-            for at in (0, 1, 63, 64, 65, 130):
+            for at in (0, 1, 127, 128, 130):
                 lines = [good] * 131
                 lines[at] = spoilt + "\n"
                 self.put(f"ongq:2\n{','.join(map(str, COLUMNS))}\n" + "".join(lines) + "rows:131\n")
@@ -74,7 +75,8 @@ class Read(Files):
 
     def test_line_ends_and_empty_lines(self) -> None:
         wanted = ongq.Saved([COLUMNS[0]], [((1,), ongq.ALL_DAYS), ((2,), ongq.ALL_DAYS)])
-        for text in ("ongq:2\nn:INT\n1,*\n2,*\nrows:2\n", "\ufeffongq:2\r\nn:INT\r\n1,*\r\n2,*\r\nrows:2", "ongq:2\n\nn:INT\r1,*\n\n2,*\rrows:2\n",
+        for text in ("ongq:2\nn:INT\n1,*\n2,*\nrows:2\n", "\ufeffongq:2\r\nn:INT\r\n1,*\r\n2,*\r\nrows:2",
+                     "ongq:2\n\nn:INT\r1,*\n\n2,*\rrows:2\n",
                      'n:INT,rows:2\n1,"{[-infinity,infinity)}"\n2,"{[-infinity,infinity)}"'):
             self.put(text)
             self.assertEqual(self.both(), wanted, text)
