@@ -263,7 +263,7 @@ def try_spoilt_files(test: Test) -> None:
         chance = random.Random(version)
         for _ in range(150):
             at = chance.randrange(len(text))
-            spoilt.append(text[:at] + chance.choice("0129+-,:\"[){*\n\r a") + text[at + chance.choice([0, 1, 1]):])
+            spoilt.append(text[:at] + chance.choice("0129+-,:\"[){*\n\r a\0") + text[at + chance.choice([0, 1, 1]):])
         for number, one in enumerate([text, *spoilt]):
             test.put("f", one)
             wanted = fault_of_ongq(test.program, test.folder, "2020-01-30")

@@ -65,7 +65,7 @@ class Table:
         if self.statement == "EXPLAIN":
             return [(line,) for line in self.text.splitlines()]
         readers = [READERS.get(column.kind, str) for column in self.schema]
-        records = csv.reader(io.StringIO(self.text, newline=""))
+        records = records_of(io.StringIO(self.text, newline=""))
         next(records)
         return [tuple([read(value) for read, value in zip(readers, fields)]) for fields in records]
 

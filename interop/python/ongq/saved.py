@@ -20,6 +20,7 @@ Row = tuple[Any, ...]
 Entry = tuple[Row, Days]
 
 AT_ONCE = 128  # lines that are read together: few, so that they stay near the processor
+NUL = "\udc00"  # stands for NUL where csv cuts records: no text that was decoded has it
 
 csv.field_size_limit(1 << 30)
 
@@ -98,10 +99,12 @@ def read_header(records: Iterator[list[str]]) -> tuple[list[Column], Optional[in
 
 
 def read_number(text: str) -> int:
-    """The number of a cell; ValueError for any other text."""
-    if not re.fullmatch("-?[0-9]+", text) or not -(1 << 63) <= int(text) < 1 << 63:
+    """The number of a cell; ValueError for any other text. The zeros before it may be more digits than Python reads."""
+    parts = re.fullmatch("(-?)0*([0-9]{1,19})", text)
+    number = int(parts[1] + parts[2]) if parts else 1 << 63
+    if not -(1 << 63) <= number < 1 << 63:
         raise ValueError(f"no number: {text}")
-    return int(text)
+    return number
 
 
 def read_text(text: str) -> str:
@@ -120,17 +123,27 @@ def read_entry(fields: list[str], kinds: list[str], version: int) -> Entry:
     return tuple([READERS[kind](field) for kind, field in zip(kinds, fields)]), read_row_days(fields[-1], version)
 
 
+def without_nul(lines: Iterable[str]) -> Iterator[str]:
+    """The lines for csv, which before Python 3.11 refuses NUL."""
+    return (line.replace("\0", NUL) for line in lines)
+
+
+def with_nul(fields: list[str]) -> list[str]:
+    """The fields of a record that csv has cut, with NUL again."""
+    return [field.replace(NUL, "\0") for field in fields]
+
+
 def records_of(lines: Iterable[str]) -> Iterator[list[str]]:
     """The records of lines; one without any byte does not count."""
-    return filter(None, csv.reader(lines))
+    return map(with_nul, filter(None, csv.reader(without_nul(lines))))
 
 
 def whole_records(some: list[str], following: Iterator[str]) -> Iterator[list[str]]:
     """The records that begin in some lines, the last with those of the following lines that belong to it."""
-    reader = csv.reader(itertools.chain(some, following))
+    reader = csv.reader(without_nul(itertools.chain(some, following)))
     for fields in reader:
         if fields:
-            yield fields
+            yield with_nul(fields)
         if reader.line_num >= len(some):
             return
 

@@ -14,12 +14,14 @@ from ongq import plain
 COLUMNS = [ongq.Column("n", "INT"), ongq.Column("s", "TEXT"), ongq.Column("d", "DATE"), ongq.Column("p", "PERIOD")]
 ENDS = ["now", "infinity", "-infinity", "2026-01-01", "+2026-02-01", "2026-01-01+", "2026-01-01+2026-02-01", "-000044-03-15"]
 DAYS = ["*", "{[-infinity,2026-01-01)}", "{[2026-01-01,infinity)}", "{[2026-01-01,2026-01-02),[2026-01-03,infinity)}"]
-TEXTS = ["", "a", "a,b", 'say "x"', '"', "two\nlines", "rows:3", "*", "ongq:2", "é", "a\rb", " b "]
+TEXTS = ["", "a", "a,b", 'say "x"', '"', "two\nlines", "rows:3", "*", "ongq:2", "é", "a\rb", " b ", "\0", "a\0,b"]
 SPOILT = ['5,"a,now,"[now,now)",*', "1,a,now", '9223372036854775808,a,now,"[now,now)",*', '1,a,now,"[now,now,now)",*', '1,a,now,"[now)",*',
           '1,a,now,"[now,now)","{[-infinity,infinity)}"', '1,a,now,"[now,now)","{[2026-01-02,2026-01-02)}"', '+1,a,now,"[now,now)",*',
           '1,a,soon,"[now,now)",*', '1,a,now,"[now,now)",{}', '1,a,now,"[now,now)","{[2026-01-01,2026-01-03),[2026-01-03,infinity)}"',
           '1,a,now,"[now,now)",', '1,a,now,"[now,now)","{[2026-01-01,)}"', '1,a,now,"[now\n,now)",*', '1,a,now,"[now,now\n)",*',
-          '1,a,now,"[now,now)","{[2026-01-01\n,infinity)}"', '1,\udcff,now,"[now,now)",*', "rows:1"]
+          '1,a,now,"[now,now)","{[2026-01-01\n,infinity)}"', '1,\udcff,now,"[now,now)",*', "rows:1",
+          '1\0,a,now,"[now,now)",*', '1,a,now\0,"[now,now)",*', '1,a,now,"[now,now)",*\0', "\0", '1,a,now,"[now,now\0)",*',
+          f'{"9" * 5_000},a,now,"[now,now)",*', f'-{"9" * 5_000},a,now,"[now,now)",*', f"rows:{'9' * 5_000}"]
 
 
 class Files(unittest.TestCase):
@@ -81,10 +83,18 @@ class Read(Files):
             self.put(text)
             self.assertEqual(self.both(), wanted, text)
 
+    def test_zeros_before_a_number_count_for_nothing(self) -> None:
+        for zeros in (1, 19, 20, 5_000):
+            self.put(f"ongq:2\nn:INT\n{'0' * zeros}7,*\n-{'0' * zeros}8,*\n{'0' * zeros},*\nrows:3\n")
+            wanted = ongq.Saved([COLUMNS[0]], [((number,), ongq.ALL_DAYS) for number in (7, -8, 0)])
+            self.assertEqual(self.both(), wanted, zeros)
+
     def test_the_number_of_rows(self) -> None:
         for text, wanted in (("ongq:2\nn:INT\n1,*\n", "record 4"), ("ongq:2\nn:INT\n1,*\nrows:2\n", "row count: said 2 found 1"),
                              ("ongq:2\nn:INT\nrows:0\n1,*\n", "record 3"), ("ongq:2\nn:INT\nrows:0\nrows:0\n", "record 3"),
-                             ("n:INT,rows:1\n", "row count: said 1 found 0"), ("ongq:3\nn:INT\n", "header"), ("", "header")):
+                             ("n:INT,rows:1\n", "row count: said 1 found 0"),
+                             (f"n:INT,rows:{'1' * 5_000}\n", "header"), ("n\0:INT,rows:1\n", "header"),
+                             ("ongq:3\nn:INT\n", "header"), ("", "header")):
             self.put(text)
             self.assertEqual(self.both(), wanted, text)
 

@@ -81,7 +81,8 @@ class Runs(unittest.TestCase):
         self.assertEqual([table.rows for table in tables], [[("t", "table")], [("-infinity", "infinity")], [("project 1",), ("  scan t",)]])
 
     def test_rows_that_look_like_something_else(self) -> None:
-        texts = ["n,s", "n", "mark_", "fault syntax statement 1", "\n", "a\nn,s\n1", "\r", '"', "", ";", "' -- ;", "name,what", "é😀"]
+        texts = ["n,s", "n", "mark_", "fault syntax statement 1", "\n", "a\nn,s\n1", "\r", '"', "", ";", "' -- ;", "name,what", "é😀",
+                 "\0", "a\0,b"]
         rows = ", ".join("(1, '" + text.replace("'", "''") + "')" for text in texts)
         script = f"CREATE TABLE t (n INT, s TEXT); INSERT INTO t VALUES {rows}; PRINT t AS OF DATE '2026-01-01'; TABLES;" \
                  "PRINT SELECT s FROM t AS OF DATE '2026-01-01';PRINT SELECT s FROM t AS OF DATE '2026-01-01'"
@@ -98,7 +99,9 @@ class Runs(unittest.TestCase):
     def test_faults_between_statements_that_write(self) -> None:
         lines = ["TABLES; TABLES; PRINT t AS OF DATE '2026-01-01'; PRINT x AS OF DATE '2026-01-01'; TABLES;",
                  "TABLES;\tTABLES; INSERT INTO t VALUES ('é', 'é'); TABLES; -- and more",
-                 "TABLES; TABLES; DROP none;", "TABLES; foo; TABLES;",
+                 "TABLES; TABLES; DROP none;", "TABLES; foo; TABLES;", "TABLES; \0; TABLES;",
+                 "TABLES; PRINT '\0' AS OF DATE '2026-01-01'; TABLES;", f"TABLES; INSERT INTO t VALUES ({'9' * 5_000}, ''); TABLES;",
+                 "TABLES; OPEN x FROM 'a\0b'; TABLES;",
                  "TABLES; PRINT 'a ; TABLES;", "TABLES; #; TABLES;", "TABLES; TABLES",
                  "TABLES; OPEN x FROM 'a statement 9\nb'; TABLES;\r\nTABLES;",
                  "TABLES; OPEN x FROM '../x'; TABLES;", "TABLES; PRINT t AS OF DATE 'soon';",
