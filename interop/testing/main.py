@@ -309,13 +309,6 @@ def try_unload(test: Test, postgres: server.Server) -> None:
     test.same("unload", "no file", False, os.path.exists(test.file("none.csv")))
 
 
-def try_pandas(test: Test) -> None:
-    saved = ongq.read(f"{answers.TOP}/examples/imports.left/leads.csv")
-    frame = saved.to_dataframe("2026-01-15")
-    test.same("pandas", "its columns", [column.name for column in saved.columns], list(frame.columns))
-    test.same("pandas", "its rows", saved.rows("2026-01-15"), [tuple(row) for row in frame.itertuples(index=False)])
-
-
 def has_module(name: str) -> bool:
     return importlib.util.find_spec(name) is not None
 
@@ -335,8 +328,6 @@ def try_all(test: Test, browser: Optional[str]) -> None:
     page.try_drawings(test)
     if browser:
         page.try_page(test, browser)
-    if has_module("pandas"):
-        try_pandas(test)
     document.try_document(test)
 
 

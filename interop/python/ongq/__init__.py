@@ -21,9 +21,10 @@ import pathlib
 from .days import (ALL_DAYS, FIRST, INFINITY, LAST, MINUS_INFINITY, Day, Days, Moment, Period, Point, Span, read_day, read_days,
                    read_period, read_point, read_reference_day)
 from .faults import CheckFault, DeviceFault, FileFault, MemoryFault, OngqError, Place, ScriptFault
+from .frames import Column
 from .notebook import load_ipython_extension
 from .program import Result, Table, Value, find_program, run
-from .saved import Column, Entry, Fault, Row, Saved, open_saved, read, scan, write
+from .saved import Entry, Fault, Row, Saved, open_saved, read, scan, write
 
 __version__ = (pathlib.Path(__file__).parent / "VERSION").read_text(encoding="utf-8").strip()
 __all__ = [

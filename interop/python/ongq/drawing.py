@@ -21,10 +21,11 @@ import pathlib
 import shutil
 import sys
 import unicodedata
-from typing import Any, Iterable, Iterator, NamedTuple, Optional
+from typing import Any, Iterable, Iterator, NamedTuple, Optional, Sequence
 
 from .days import ALL_DAYS, FIRST, INFINITY, LAST, Day, Days, Period, Point, read_day, read_reference_day
-from .saved import Column, Entry, Saved, read
+from .frames import Column
+from .saved import Entry, Saved, read
 
 
 class Window(NamedTuple):
@@ -120,7 +121,7 @@ def lanes(saved: Saved) -> list[Lane]:
     return made
 
 
-def marked_days(entries: list[Entry]) -> list[Day]:
+def marked_days(entries: Sequence[Entry]) -> list[Day]:
     """The days at which a row comes or goes, or a point of it stands still."""
     found = {day for _, days in entries for ends in days for day in ends}
     for row, _ in entries:
@@ -130,7 +131,7 @@ def marked_days(entries: list[Entry]) -> list[Day]:
     return sorted(day for day in found if FIRST < day <= LAST)
 
 
-def window(entries: list[Entry], low: Optional[str], high: Optional[str], width: float) -> Window:
+def window(entries: Sequence[Entry], low: Optional[str], high: Optional[str], width: float) -> Window:
     """The window that is asked for, or one with all marked days. ValueError where it has no days."""
     days = marked_days(entries) or [read_day("2000-01-01"), read_day("2001-01-01")]
     around = max(15, (days[-1] - days[0]) * 3 // 20)

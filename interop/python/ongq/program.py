@@ -24,7 +24,8 @@ from dataclasses import dataclass, field
 from typing import TYPE_CHECKING, Callable, Iterator, NamedTuple, Optional, Union
 
 from .faults import CLASSES, OngqError, Place
-from .saved import Column, Path, dataframe, open_saved, read_header, records_of
+from .frames import Column, dataframe
+from .saved import Path, open_saved, read_header, records_of
 from .scripts import Columns, Names, first_token, statements, text_of, tokens
 
 if TYPE_CHECKING:
@@ -71,7 +72,7 @@ class Table:
 
     def to_dataframe(self) -> pandas.DataFrame:
         """The rows as a DataFrame. ImportError where pandas is not there."""
-        return dataframe(self.columns, [column.kind for column in self.schema], self.rows)
+        return dataframe(self.schema, self.rows)
 
 
 @dataclass

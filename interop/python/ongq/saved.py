@@ -7,9 +7,10 @@ import gc
 import itertools
 import os
 import re
-from typing import IO, TYPE_CHECKING, Any, Callable, Iterable, Iterator, NamedTuple, Optional, Union
+from typing import IO, TYPE_CHECKING, Any, Callable, Iterable, Iterator, NamedTuple, Optional, Sequence, Union
 
 from .days import ALL_DAYS, Day, Days, Moment, Period, Point, day_of, read_period, read_point, read_row_days
+from .frames import Column, dataframe
 from .plain import PlainLines
 
 if TYPE_CHECKING:
@@ -29,16 +30,6 @@ class Fault(ValueError):
     """What a file has that no saved file has: `header`, `record N`, or `row count: said N found M`."""
 
 
-class Column(NamedTuple):
-    """A column of a saved file; its kind is INT, TEXT, DATE or PERIOD."""
-
-    name: str
-    kind: str
-
-    def __str__(self) -> str:
-        return f"{self.name}:{self.kind}"
-
-
 def value_at(value: Any, day: Day) -> Any:
     """What a value is on a day."""
     return value.at(day) if isinstance(value, (Point, Period)) else value
@@ -47,8 +38,8 @@ def value_at(value: Any, day: Day) -> Any:
 class Saved(NamedTuple):
     """What a saved file holds: its columns, and its rows with the days on which each is there."""
 
-    columns: list[Column]
-    entries: list[Entry]
+    columns: Sequence[Column]
+    entries: Sequence[Entry]
 
     def rows(self, moment: Moment) -> list[Row]:
         """The rows as of a day, each once, in the order of PRINT."""
@@ -56,17 +47,8 @@ class Saved(NamedTuple):
         return sorted({tuple([value_at(value, day) for value in row]) for row, days in self.entries if days.hold(day)})
 
     def to_dataframe(self, moment: Moment) -> pandas.DataFrame:
-        """The rows as of a day: a Day for a DATE and a Span for a PERIOD. ImportError where pandas is not there."""
-        return dataframe([column.name for column in self.columns], [column.kind for column in self.columns], self.rows(moment))
-
-
-def dataframe(names: Iterable[str], kinds: Iterable[str], rows: list[Row]) -> pandas.DataFrame:
-    """Rows as a DataFrame, in which several columns may have one name."""
-    import pandas
-
-    types = ["int64" if kind == "INT" else object for kind in kinds]
-    table = pandas.DataFrame({at: pandas.Series([row[at] for row in rows], dtype=one) for at, one in enumerate(types)})
-    return table.set_axis(list(names), axis=1)
+        """The rows as of a day as a DataFrame. ImportError where pandas is not there."""
+        return dataframe(self.columns, self.rows(moment))
 
 
 def read_column(field: str) -> Column:

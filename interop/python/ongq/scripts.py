@@ -7,7 +7,7 @@ from __future__ import annotations
 import re
 from typing import Callable, Iterator, NamedTuple, Optional
 
-from .saved import Column
+from .frames import Column
 
 # What may hold a `;` that ends no statement, and such a `;`. A text that is not closed goes on to the end.
 BOUNDARY = re.compile(rb"'[^']*(?:'|\Z)|--[^\n]*|;")
