@@ -7,6 +7,7 @@ import json
 import os
 import pathlib
 import re
+import shutil
 import subprocess
 import sys
 import tempfile
@@ -16,6 +17,8 @@ import zipfile
 import ongq
 
 HERE = pathlib.Path(__file__).resolve().parents[1]
+TOP = HERE.parents[1]
+DOCUMENT = TOP / "docs" / "INTEROP.md"
 HAS_PIP = importlib.util.find_spec("pip") is not None
 HAS_IPYTHON = importlib.util.find_spec("IPython") is not None
 
@@ -94,8 +97,10 @@ class Package(unittest.TestCase):
         script = "CREATE TABLE t (n INT, s TEXT, p PERIOD); INSERT INTO t VALUES (1, '<b>&', PERIOD '[2026-01-01,now)');\n"
         cells = [f"%%ongq\n{script}PRINT t AS OF DATE '2026-01-15';\nSAVE t TO 't.csv';\nTABLES;",
                  f"%%ongq --folder below --workers 2\n{script}SAVE t TO 'u.csv';",
-                 "%%ongq\nTABLES;\nPRINT x AS OF DATE '2026-01-15';", "%%ongq --workers many\nTABLES;", "%%ongq --workers 65\nTABLES;"]
-        shown, below, fault, words, workers = json.loads(python(self.folder, "-c", CELLS, asked=json.dumps(cells)))
+                 "%%ongq\nTABLES;\nPRINT x AS OF DATE '2026-01-15';", "%%ongq --workers many\nTABLES;", "%%ongq --workers 65\nTABLES;",
+                 *re.findall("^```\n(%%ongq.*?)^```$", DOCUMENT.read_text(encoding="utf-8"), re.MULTILINE | re.DOTALL)]
+        shutil.copy(TOP / "examples" / "patches.left" / "r.csv", self.folder)
+        shown, below, fault, words, workers, documented = json.loads(python(self.folder, "-c", CELLS, asked=json.dumps(cells)))
         self.assertIn("<tr><td>1</td><td>&lt;b&gt;&amp;</td><td>[2026-01-01,2026-01-15)</td></tr>", shown[0][0])
         self.assertIn("<td>table</td>", shown[0][1])
         self.assert_draws(shown[0][2], 1)
@@ -104,7 +109,10 @@ class Package(unittest.TestCase):
         self.assertTrue(os.path.exists(os.path.join(self.folder, "below", "u.csv")))
         self.assertEqual([len(fault[0]), fault[2]], [1, False])
         self.assertEqual(fault[1].rstrip("\n"), "2:7: no such name x\n  PRINT x AS OF DATE '2026-01-15';\n        ^")
-        self.assertEqual([words[1], workers[1]], ["%%ongq: argument --workers: invalid int value: 'many'\n", "%%ongq: workers are 1 to 64\n"])
+        self.assertEqual(words[1], "%%ongq: argument --workers: invalid int value: 'many'\n")
+        self.assertEqual(workers[1], "%%ongq: workers are 1 to 64\n")
+        self.assertIn("<tr><td>500</td><td>202</td></tr>", documented[0][0])
+        self.assert_draws(documented[0][1], 2)
 
 
 if __name__ == "__main__":
