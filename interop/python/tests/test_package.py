@@ -98,7 +98,7 @@ class Package(unittest.TestCase):
         cells = [f"%%ongq\n{script}PRINT t AS OF DATE '2026-01-15';\nSAVE t TO 't.csv';\nTABLES;",
                  f"%%ongq --folder below --workers 2\n{script}SAVE t TO 'u.csv';",
                  "%%ongq\nTABLES;\nPRINT x AS OF DATE '2026-01-15';", "%%ongq --workers many\nTABLES;", "%%ongq --workers 65\nTABLES;",
-                 *re.findall("^```\n(%%ongq.*?)^```$", DOCUMENT.read_text(encoding="utf-8"), re.MULTILINE | re.DOTALL)]
+                 *re.findall("^```cell.*?\n(%%ongq.*?)^```$", DOCUMENT.read_text(encoding="utf-8"), re.MULTILINE | re.DOTALL)]
         shutil.copy(TOP / "examples" / "patches.left" / "r.csv", self.folder)
         shown, below, fault, words, workers, documented = json.loads(python(self.folder, "-c", CELLS, asked=json.dumps(cells)))
         self.assertIn("<tr><td>1</td><td>&lt;b&gt;&amp;</td><td>[2026-01-01,2026-01-15)</td></tr>", shown[0][0])
