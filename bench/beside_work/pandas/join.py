@@ -1,0 +1,4 @@
+# a merge on comp, then a filter
+# each time:
+both = at(bugs, "$day").merge(at(patch, "$day"), on="comp", suffixes=("", "_p"))
+print_csv(both.loc[(both.since < both.until_p) & (both.since_p < both.until), ["id", "pid"]])

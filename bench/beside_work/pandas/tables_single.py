@@ -1,0 +1,1 @@
+bugs = pd.read_csv("bugs.dates.csv")

@@ -1,0 +1,3 @@
+-- no index
+-- each time:
+COPY (SELECT id, comp, since, COALESCE(until, '$day') AS until FROM bugs) TO STDOUT WITH (FORMAT csv, HEADER);

@@ -1,0 +1,3 @@
+-- no index
+-- each time:
+SELECT id, comp, since, COALESCE(until, '$day') AS until FROM bugs;
