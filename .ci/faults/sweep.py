@@ -219,8 +219,8 @@ def stops_between(done: Step, step: Step, ended: Ended, files: Files) -> bool:
 def main(words: List[str]) -> int:
     library, program = words
     with tempfile.TemporaryDirectory(prefix="ongq-faults-") as top:
-        sweep = Sweep(os.path.abspath(program), library, top)
-        for name in ("join", "files", "at", "load"):
+        sweep = Sweep(os.path.abspath(program), os.path.abspath(library), top)
+        for name in ("join", "files", "live", "at", "load"):
             sweep.try_script(name)
     print(f".ci/faults/sweep: {sweep.runs:,} runs, {sweep.differences:,} differences")
     return 1 if sweep.differences else 0
