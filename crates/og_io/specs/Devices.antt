@@ -31,6 +31,7 @@ pub record FolderDevice : Type 0 where
   pub buffer : List ℕ
   pub faults : ℕ
   pub absences : ℕ
+  pub calls : ℕ
 
 -- a reader or a writer, and how often it failed
 pub record Counted (D : Type 0) : Type 0 where

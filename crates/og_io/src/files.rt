@@ -1,5 +1,6 @@
 //! Files by their names.
 ghost use Rattle.std.specs.Prelude.{◌≡◌, ◌≤◌, ℕ, List, Option, Some, Err, OnOk};
+ghost use Rattle.og_io.specs.Counts.{raised};
 ghost use Rattle.og_io.specs.Folders.{Folder, IsSame, IsSameBut, WhereTold, HasFile, IsAnswer, FailsAsCounted, AbsentAsCounted};
 
 use og_base::NoMemory;
@@ -50,13 +51,17 @@ pub trait Files {
     /// How often a name had no file: the count never falls.
     ghost absences: { Self → ℕ };
 
+    /// How often `read` and `write` were called, or the last value of a u64.
+    ghost calls: { Self → ℕ };
+
     /// Hands out the bytes of the file. `Absent` where the name has none, and `Failed` where the device
     /// failed; then, and where memory ran out, the buffer is empty. All names stay as they were.
     fn read(&mut self, name: &Text) -> Result<Found, FilesRefusal>
         ensures names { WhereTold IsSame (folder self.old) (folder self.new) }
         ensures answer { IsAnswer result (folder self.old) name.now (buffer self.new) }
         ensures failed { FailsAsCounted result (faults self.old) (faults self.new) }
-        ensures absent { AbsentAsCounted result (absences self.old) (absences self.new) };
+        ensures absent { AbsentAsCounted result (absences self.old) (absences self.new) }
+        ensures calls { calls self.new ≡ raised (calls self.old) };
 
     /// The bytes that are handed out: those of the last read that found its file, and none before it
     /// and after a read of another answer.
@@ -71,5 +76,6 @@ pub trait Files {
         ensures want { result ≡ Err FilesRefusal.NoMemory → WhereTold IsSame (folder self.old) (folder self.new) }
         ensures buffer { buffer self.new ≡ buffer self.old }
         ensures failed { FailsAsCounted result (faults self.old) (faults self.new) }
-        ensures absences { absences self.old ≤ absences self.new };
+        ensures absences { absences self.old ≤ absences self.new }
+        ensures calls { calls self.new ≡ raised (calls self.old) };
 }

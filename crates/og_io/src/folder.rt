@@ -1,6 +1,7 @@
 //! The files of the current folder. What a name holds is not told.
 ghost use Rattle.std.specs.Prelude.{◌≡◌, ◌≤◌, [], None, Some, Ok, Err, OnOk, false, length};
 ghost use Rattle.og_io.specs.BelowFolder.{is_below_folder};
+ghost use Rattle.og_io.specs.Counts.{raised};
 ghost use Rattle.og_io.specs.Folders.{HasFile, IsAnswer, FailsAsCounted, AbsentAsCounted};
 ghost use Rattle.og_io.specs.WholeFiles.{max_file, HandsOut, AreOfSomeFile, AreInSomeFile};
 
@@ -14,13 +15,14 @@ use std::marker::Model;
 
 /// The files of the current folder and of those below it. A name is one or more parts with `/` between
 /// them, none of them empty, `.` or `..`, without a zero byte; any other name is a fault. Seen as the bytes
-/// handed out, and the counts of faults and of absences.
+/// handed out, and the counts of faults, of absences and of calls.
 #[derive(Drop)]
 pub struct FolderFiles<'a, H> {
     rt: &'a H,
     buffer: Vec<u8>,
     faults: u64,
     absences: u64,
+    calls: u64,
 }
 
 impl<'a, H> Model for FolderFiles<'a, H> {
@@ -32,6 +34,7 @@ impl<'a, H> Model for FolderFiles<'a, H> {
       buffer = f.buffer.items;
       faults = f.faults;
       absences = f.absences;
+      calls = f.calls;
     } };
 }
 
@@ -41,12 +44,14 @@ impl<'a, H: fs::Files> FolderFiles<'a, H> {
         ensures buffer { result.buffer ≡ [] }
         ensures faults { result.faults ≡ 0 }
         ensures absences { result.absences ≡ 0 }
+        ensures calls { result.calls ≡ 0 }
     {
         FolderFiles {
             rt,
             buffer: Vec::new(alloc),
             faults: 0,
             absences: 0,
+            calls: 0,
         }
     }
 
@@ -58,6 +63,7 @@ impl<'a, H: fs::Files> FolderFiles<'a, H> {
         ensures handed { HandsOut read result self.new.buffer }
         ensures failed { FailsAsCounted result self.old.faults self.new.faults }
         ensures absent { AbsentAsCounted result self.old.absences self.new.absences }
+        ensures calls { self.new.calls ≡ self.old.calls }
     {
         self.buffer.clear();
         match read {
@@ -90,6 +96,8 @@ impl<'a, H: fs::Files> Files for FolderFiles<'a, H> {
 
     ghost absences = { λ f. f.absences };
 
+    ghost calls = { λ f. f.calls };
+
     // A file of more than `MAX_FILE` bytes is a fault, and so is what is no file.
     fn read(&mut self, name: &Text) -> Result<Found, FilesRefusal>
         ensures answer { IsAnswer result None name.now self.new.buffer }
@@ -98,7 +106,9 @@ impl<'a, H: fs::Files> Files for FolderFiles<'a, H> {
         ensures outside { is_below_folder name.now ≡ false → result ≡ Err FilesRefusal.Failed }
         ensures whole { result ≡ Ok Found.Present → AreOfSomeFile H.File.remaining self.new.buffer }
         ensures small { length self.new.buffer ≤ max_file }
+        ensures calls { self.new.calls ≡ raised self.old.calls }
     {
+        self.calls = self.calls.saturating_add(1);
         if !is_below_folder(name.bytes()) {
             return self.hand_out(Err(FilesRefusal::Failed));
         }
@@ -123,7 +133,9 @@ impl<'a, H: fs::Files> Files for FolderFiles<'a, H> {
         ensures absences { self.new.absences ≡ self.old.absences }
         ensures outside { is_below_folder name.now ≡ false → result ≡ Err FilesRefusal.Failed }
         ensures whole { OnOk result (AreInSomeFile H.File.contents bytes.now) }
+        ensures calls { self.new.calls ≡ raised self.old.calls }
     {
+        self.calls = self.calls.saturating_add(1);
         if !is_below_folder(name.bytes()) {
             self.faults = self.faults.saturating_add(1);
             return Err(FilesRefusal::Failed);

@@ -103,6 +103,8 @@ impl Files for MemFiles {
 
     ghost absences = { λ f. f.absences };
 
+    ghost calls = { λ f. f.calls };
+
     fn read(&mut self, name: &Text) -> Result<Found, FilesRefusal>
         ensures names { WhereTold IsSame (Some (folder_of self.old.files)) (Some (folder_of self.new.files)) }
         ensures answer { IsAnswer result (Some (folder_of self.old.files)) name.now self.new.buffer }

@@ -12,6 +12,7 @@ use std::alloc::Global;
 pub struct NotedFiles {
     files: MemFiles,
     writes: Vec<Write>,
+    calls: u64,
 }
 
 /// A call that was to write a file.
@@ -39,12 +40,13 @@ impl NotedFiles {
         Ok(NotedFiles {
             files,
             writes: Vec::new(alloc),
+            calls: 0,
         })
     }
 
     /// How many calls were made.
     pub fn calls(&self) -> u64 {
-        self.files.calls()
+        self.calls
     }
 
     /// The calls that were to write a file.
@@ -68,13 +70,14 @@ impl NotedFiles {
         bytes
     }
 
-    // Notes that the next call is to write the file.
+    // Notes that this call is to write the file.
     fn note(&mut self, name: &Text, bytes: &[u8]) -> Result<(), NoMemory>
-        ensures { self.new.files ≡ self.old.files }
+        ensures files { self.new.files ≡ self.old.files }
+        ensures calls { self.new.calls ≡ self.old.calls }
     {
         let alloc = *self.writes.allocator();
         let write = Write {
-            call: self.files.calls().saturating_add(1),
+            call: self.calls,
             name: name.copy()?,
             bytes: bytes.to_vec(alloc)?,
         };
@@ -95,7 +98,10 @@ impl Files for NotedFiles {
 
     ghost absences = { λ f. f.files.absences };
 
+    ghost calls = { λ f. f.calls };
+
     fn read(&mut self, name: &Text) -> Result<Found, FilesRefusal> {
+        self.calls = self.calls.saturating_add(1);
         self.files.read(name)
     }
 
@@ -104,6 +110,7 @@ impl Files for NotedFiles {
     }
 
     fn write(&mut self, name: &Text, bytes: &[u8]) -> Result<(), FilesRefusal> {
+        self.calls = self.calls.saturating_add(1);
         self.note(name, bytes)?;
         self.files.write(name, bytes)
     }
