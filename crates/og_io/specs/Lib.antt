@@ -4,4 +4,5 @@ pub mod Devices
 pub mod FileCounts
 pub mod Folders
 pub mod Puts
+pub mod Sources
 pub mod WholeFiles

@@ -2,7 +2,8 @@
 //!
 //! The traits `Source`, `Sink` and `Files` say which of the bytes that a device tells are taken,
 //! appended, handed out or replaced, that a call fails only where the count of faults rose, and that
-//! any other answer leaves this count (specs/Told.antt of og_base, specs/Folders.antt). `MemSource`,
+//! any other answer leaves this count (specs/Told.antt of og_base, specs/Folders.antt). A source is not
+//! asked again after its end or a fault (specs/Sources.antt). `MemSource`,
 //! `MemSink` and `MemFiles` tell all of it; one call of each may be made to fail. `StdSource` and
 //! `StdSink` are over std's readers and writers and tell what these tell, which is nothing of a real
 //! standard input and output. `FolderFiles` are the files of the current folder, where what a name holds
@@ -13,6 +14,7 @@
 //! are run over devices in memory that fail at each of their calls in turn.
 #![tactic(auto)]
 
+mod failures;
 mod files;
 mod folder;
 mod folder_names;

@@ -1,9 +1,10 @@
 //! A source and a sink in memory. One of their calls may be made to fail.
-ghost use Rattle.std.specs.Prelude.{◌≡◌, ◌<◌, ◌≤◌, ◌↔◌, [], Some, Err, IsErr, IfOk, OnOk, OnErr, length, min};
+ghost use Rattle.std.specs.Prelude.{◌≡◌, ◌<◌, ◌≤◌, ◌↔◌, [], Some, Err, IsErr, IfOk, OnOk, OnErr, false, length, min};
 ghost use Rattle.std.specs.Io.{ReadsAtMost};
 ghost use Rattle.std.specs.Io.KnownBytes.{Appends, ReadConsumes};
 ghost use Rattle.og_base.specs.Told.{Rose, HasCause, AppendsFront};
 ghost use Rattle.og_io.specs.Counts.{raised, faults_after};
+ghost use Rattle.og_io.specs.Sources.{is_end};
 
 use crate::sink::{PutRefusal, Sink};
 use crate::source::{Failed, Source};
@@ -12,13 +13,14 @@ use std::alloc::Global;
 use std::marker::Model;
 
 /// Bytes in memory, given a few at a time. Seen as the bytes left, the most that a call gives, the number
-/// of the call that fails, and the counts of calls and of faults.
+/// of the call that fails, the counts of calls and of faults, and whether it has ended.
 #[derive(Debug, Drop)]
 pub struct MemSource {
     bytes: Vec<u8>,
     at: usize,
     step: usize,
     tally: Tally,
+    ended: bool,
 }
 
 impl Model for MemSource {
@@ -33,6 +35,7 @@ impl Model for MemSource {
       fail_at = s.tally.fail_at;
       calls = s.tally.calls;
       faults = s.tally.faults;
+      ended = s.ended;
     } };
 
     ghost invariant = { λ s. (s.at ≤ length s.bytes.items) × (0 < s.step) };
@@ -48,12 +51,14 @@ impl MemSource {
         ensures fail_at { result.fail_at ≡ fail_at }
         ensures calls { result.calls ≡ 0 }
         ensures faults { result.faults ≡ 0 }
+        ensures ended { result.ended ≡ false }
     {
         MemSource {
             bytes,
             at: 0,
             step,
             tally: Tally::new(fail_at),
+            ended: false,
         }
     }
 
@@ -70,11 +75,14 @@ impl Source for MemSource {
 
     ghost faults = { λ s. s.faults };
 
+    ghost ended = { λ s. s.ended };
+
     fn next(&mut self, buf: &mut [u8]) -> Result<usize, Failed>
         ensures bound { ReadsAtMost result buf.new }
         ensures bytes { ReadConsumes (Some self.old.left) (Some self.new.left) result buf.new }
         ensures cause { HasCause self.old.faults self.new.faults result }
         ensures kept { OnOk result (self.new.faults ≡ self.old.faults) }
+        ensures ended { self.new.ended ≡ is_end result }
         ensures count { IfOk result (λ n. n ≡ min (min (length self.old.left) (length buf.old)) self.old.step) }
         ensures failing { IsErr result ↔ (self.old.fail_at ≡ Some (raised self.old.calls)) }
         ensures refused { OnErr result (buf.new ≡ buf.old) }
@@ -83,11 +91,15 @@ impl Source for MemSource {
         ensures step { self.new.step ≡ self.old.step }
         ensures fail_at { self.new.fail_at ≡ self.old.fail_at }
     {
-        self.tally.count_call()?;
+        let Ok(()) = self.tally.count_call() else {
+            self.ended = true;
+            return Err(Failed);
+        };
         let rest = &self.bytes[self.at..];
         let count = rest.len().min(buf.len()).min(self.step);
         buf[..count].copy_from_slice(&rest[..count]);
         self.at += count;
+        self.ended = count == 0;
         Ok(count)
     }
 }

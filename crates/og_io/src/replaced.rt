@@ -1,9 +1,10 @@
 // A file of the system, read whole and replaced whole.
-ghost use Rattle.std.specs.Prelude.{◌≡◌, ◌≢◌, ◌<◌, ◌≤◌, ◌↔◌, Some, None, Ok, Err, IfOk, IfSome, IsOkAnd, IsErrAnd, OnOk, length};
+ghost use Rattle.std.specs.Prelude.{◌≡◌, ◌≢◌, ◌<◌, ◌≤◌, ◌+◌, ◌↔◌, Some, None, Ok, Err, IfOk, IfSome, IsOkAnd, IsErrAnd, OnOk, false, length};
 ghost use Rattle.std.specs.Fs.{file_type, IsFile};
 ghost use Rattle.std.specs.Io.KnownBytes.{Appends};
 ghost use Rattle.std.specs.IoError.{error_kind};
 ghost use Rattle.og_base.specs.Told.{Rose};
+ghost use Rattle.og_io.specs.Sources.{max_part, TakesAtMost};
 ghost use Rattle.og_io.specs.WholeFiles.{max_file, AreTold, ReadsOpened, AreInSomeFile};
 
 use crate::files::FilesRefusal;
@@ -92,8 +93,10 @@ pub(crate) fn read_opened<F: Read + Drop>(
 
 // The bytes of the source, read to its end. `Failed` where the source failed, or has more than `MAX_FILE`.
 fn read_whole<S: Source>(alloc: Global, src: &mut S) -> Result<Vec<u8>, FilesRefusal>
+    requires not_ended { S.ended src.old ≡ false }
     ensures whole { IfOk result (λ v. AreTold (S.left src.old) v.items) }
     ensures small { IfOk result (λ v. length v.items ≤ max_file) }
+    ensures taken { TakesAtMost (max_file + max_part) (S.left src.old) (S.left src.new) }
     ensures failed { result ≡ Err FilesRefusal.Failed → ¬ Rose (S.faults src.old) (S.faults src.new)
         → IfSome (S.left src.old) (λ all. max_file < length all) }
 {

@@ -1,31 +1,34 @@
 //! Readers and writers of std as a source and a sink. They tell what their reader or writer tells.
-ghost use Rattle.std.specs.Prelude.{◌≡◌, ◌≤◌, Ok, Err, IfOk, OnOk, OnErr, IsErr, IsOkUnless};
+ghost use Rattle.std.specs.Prelude.{◌≡◌, ◌≤◌, Err, OnOk, OnErr, IsOkUnless, false};
 ghost use Rattle.std.specs.Io.{ReadsAtMost};
 ghost use Rattle.std.specs.Io.KnownBytes.{Appends, ReadConsumes};
 ghost use Rattle.og_base.specs.Told.{Rose, HasCause, AppendsFront};
 ghost use Rattle.og_io.specs.Counts.{faults_after};
+ghost use Rattle.og_io.specs.Sources.{is_end};
 
+use crate::failures::counted;
 use crate::sink::{PutRefusal, Sink};
 use crate::source::{Failed, Source};
-use std::io;
 use std::io::{Read, Write};
 use std::marker::Model;
 
-/// A source over a reader. A read that fails is a fault. Seen as the reader and the count of its faults.
+/// A source over a reader. A read that fails is a fault. Seen as the reader, the count of its faults, and
+/// whether it has ended.
 #[derive(Debug, Drop)]
 pub struct StdSource<R> {
     reader: R,
     faults: u64,
+    ended: bool,
 }
 
 impl<R> Model for StdSource<R> {
-    ghost use Rattle.og_io.specs.Devices.{Counted, counted_code};
+    ghost use Rattle.og_io.specs.Devices.{CountedReader, reader_code};
 
-    ghost Value = { Counted R };
+    ghost Value = { CountedReader R };
 
-    ghost coded = { counted_code R.code };
+    ghost coded = { reader_code R.code };
 
-    ghost view = { λ s. record { device = s.reader; faults = s.faults } };
+    ghost view = { λ s. record { device = s.reader; faults = s.faults; ended = s.ended } };
 }
 
 impl<R: Read> StdSource<R> {
@@ -33,8 +36,13 @@ impl<R: Read> StdSource<R> {
     pub fn new(reader: R) -> StdSource<R>
         ensures device { result.device ≡ reader }
         ensures faults { result.faults ≡ 0 }
+        ensures ended { result.ended ≡ false }
     {
-        StdSource { reader, faults: 0 }
+        StdSource {
+            reader,
+            faults: 0,
+            ended: false,
+        }
     }
 }
 
@@ -43,31 +51,19 @@ impl<R: Read> Source for StdSource<R> {
 
     ghost faults = { λ s. s.faults };
 
+    ghost ended = { λ s. s.ended };
+
     fn next(&mut self, buf: &mut [u8]) -> Result<usize, Failed>
         ensures bound { ReadsAtMost result buf.new }
         ensures bytes { ReadConsumes (R.remaining self.old.device) (R.remaining self.new.device) result buf.new }
         ensures cause { HasCause self.old.faults self.new.faults result }
         ensures kept { OnOk result (self.new.faults ≡ self.old.faults) }
         ensures faults { self.new.faults ≡ faults_after result self.old.faults }
+        ensures ended { self.new.ended ≡ is_end result }
     {
-        let read = self.reader.read(buf);
-        counted(&mut self.faults, read)
-    }
-}
-
-// What the reader answered; where it failed, the fault is counted.
-fn counted(faults: &mut u64, read: io::Result<usize>) -> Result<usize, Failed>
-    ensures given { IfOk read (λ count. result ≡ Ok count) }
-    ensures failed { OnErr read (IsErr result) }
-    ensures cause { HasCause faults.old faults.new result }
-    ensures faults { faults.new ≡ faults_after result faults.old }
-{
-    match read {
-        Ok(count) => Ok(count),
-        Err(_) => {
-            *faults = faults.saturating_add(1);
-            Err(Failed)
-        }
+        let read = counted(&mut self.faults, self.reader.read(buf));
+        self.ended = read.unwrap_or(0) == 0;
+        read
     }
 }
 

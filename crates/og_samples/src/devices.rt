@@ -1,4 +1,6 @@
 //! Sources and sinks over readers and writers of std.
+ghost use Rattle.std.specs.Prelude.{◌≡◌, ◌<◌, true, false, length};
+
 use crate::listing::is_text;
 use og_io::{PutRefusal, Sink, Source, StdSink, StdSource};
 use std::io;
@@ -19,7 +21,10 @@ impl Write for Full {
 }
 
 // Whether the source gives these bytes next, to two bytes of room.
-fn gives(source: &mut StdSource<&[u8]>, bytes: &[u8]) -> bool {
+fn gives(source: &mut StdSource<&[u8]>, bytes: &[u8]) -> bool
+    requires { source.old.ended ≡ false }
+    ensures { result ≡ true → 0 < length bytes.now → source.new.ended ≡ false }
+{
     let mut buf = [0u8; 2];
     source.next(&mut buf) == Ok(bytes.len()) && buf.starts_with(bytes)
 }

@@ -297,19 +297,17 @@ impl Write for Faulty {
     }
 }
 
-// Whether three calls of the source give a byte, a failure and a byte.
+// Whether two calls of the source give a byte and a failure.
 fn fails_once(reader: &mut Faulty) -> bool {
     let mut source = StdSource::new(reader);
     let mut buf = [0u8; 4];
-    source.next(&mut buf) == Ok(1)
-        && source.next(&mut buf) == Err(Failed)
-        && source.next(&mut buf) == Ok(1)
+    source.next(&mut buf) == Ok(1) && source.next(&mut buf) == Err(Failed)
 }
 
 #[test]
 fn a_source_asks_its_reader_once_a_call(rt: HostRuntime) {
     let mut reader = Faulty { calls: 0 };
-    assert!(rt; fails_once(&mut reader) && reader.calls == 3);
+    assert!(rt; fails_once(&mut reader) && reader.calls == 2);
 }
 
 // Whether the second of three pieces fails.

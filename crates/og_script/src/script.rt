@@ -1,10 +1,11 @@
 //! The script of a command.
-ghost use Rattle.std.specs.Prelude.{◌≡◌, ◌≤◌, [], ℕ, List, false, Some, IfOk, IfErr, length};
+ghost use Rattle.std.specs.Prelude.{◌≡◌, ◌≤◌, ◌+◌, [], ℕ, List, false, Some, IfOk, IfErr, length};
 ghost use Rattle.std.specs.List.{All};
 ghost use Rattle.og_par.specs.Limits.{max_workers};
 ghost use Rattle.og_words.specs.Grammar.{IsCommand};
 ghost use Rattle.og_words.specs.declared.command.Command.TheVariants as commands;
 ghost use Rattle.og_faults.specs.Counts.{IsFaultCount, is_read_fault};
+ghost use Rattle.og_io.specs.Sources.{max_part, TakesAtMost};
 ghost use Rattle.og_script.specs.Stops.{IsRunCommand, IsScriptStop, IsSourceOf, IsStopBefore};
 ghost use Rattle.og_script.specs.LiveTexts.{IsLiveStmt};
 ghost use Rattle.og_script.specs.Kept.{IsKeptAt};
@@ -41,13 +42,15 @@ pub fn script_of<S: Source>(
     src: &mut S,
     kept: &mut Vec<u8>,
 ) -> Result<Items<Stmt>, Stop>
-    requires { (words : List (List ℕ)) × IsCommand words command }
+    requires command { (words : List (List ℕ)) × IsCommand words command }
+    requires not_ended { S.ended src.old ≡ false }
     ensures script { (source : List ℕ) → IsSourceOf command (S.left src.old) source → IfOk result (IsScriptOf command source) }
     ensures live { IfOk result (All IsLiveStmt) }
     ensures stopped { (source : List ℕ) → IsSourceOf command (S.left src.old) source → IfErr result (IsScriptStop source) }
     ensures stops { IfErr result (IsStopBefore command) }
     ensures drained { (source : List ℕ) → IsRunCommand command → S.left src.old ≡ Some source → IfOk result (λ _. S.left src.new ≡ Some []) }
     ensures untouched { ¬ IsRunCommand command → src.new ≡ src.old }
+    ensures taken { TakesAtMost (max_source + max_part) (S.left src.old) (S.left src.new) }
     ensures kept { (source : List ℕ) → IsRunCommand command → S.left src.old ≡ Some source → IfOk result (λ _. kept.new.items ≡ source) }
     ensures kept_at { (source : List ℕ) → IsRunCommand command → S.left src.old ≡ Some source → IfErr result (IsKeptAt source kept.new.items) }
     ensures none_kept { ¬ IsRunCommand command → kept.new ≡ kept.old }
@@ -67,11 +70,13 @@ fn read_script<S: Source>(
     src: &mut S,
     kept: &mut Vec<u8>,
 ) -> Result<Items<Stmt>, Stop>
+    requires not_ended { S.ended src.old ≡ false }
     ensures script { (source : List ℕ) → S.left src.old ≡ Some source → IfOk result (IsScript source) }
     ensures live { IfOk result (All IsLiveStmt) }
     ensures stopped { (source : List ℕ) → S.left src.old ≡ Some source → IfErr result (IsScriptStop source) }
     ensures stops { (workers : ℕ) → IfErr result (IsStopBefore (commands.Run workers)) }
     ensures drained { (source : List ℕ) → S.left src.old ≡ Some source → IfOk result (λ _. S.left src.new ≡ Some []) }
+    ensures taken { TakesAtMost (max_source + max_part) (S.left src.old) (S.left src.new) }
     ensures kept { (source : List ℕ) → S.left src.old ≡ Some source → IfOk result (λ _. kept.new.items ≡ source) }
     ensures kept_at { (source : List ℕ) → S.left src.old ≡ Some source → IfErr result (IsKeptAt source kept.new.items) }
     ensures reads { IsFaultCount (is_read_fault result) (S.faults src.old) (S.faults src.new) }

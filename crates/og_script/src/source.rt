@@ -1,7 +1,8 @@
 //! Reads the source to its end.
-ghost use Rattle.std.specs.Prelude.{◌≡◌, ◌≤◌, ℕ, List, Some, Err, IfOk, length};
+ghost use Rattle.std.specs.Prelude.{◌≡◌, ◌≤◌, ◌+◌, ℕ, List, Some, Err, IfOk, false, length};
 ghost use Rattle.og_base.specs.Told.{Rose};
 ghost use Rattle.og_faults.specs.Counts.{IsFaultCount};
+ghost use Rattle.og_io.specs.Sources.{max_part, TakesAtMost};
 ghost use Rattle.og_script.specs.Reading.{is_unread, IsReading};
 ghost use Rattle.og_script.specs.Scripts.{max_source};
 
@@ -45,10 +46,13 @@ impl From<SourceRefusal> for Stop {
 }
 
 /// The bytes of the source, read to its end. `TooLong` comes as soon as a byte past `MAX_SOURCE` has come,
-/// so the source is asked for bytes at most `MAX_SOURCE + 1` times.
+/// so the source is asked for bytes at most `MAX_SOURCE + 1` times, and gives at most `PART` bytes more than
+/// `MAX_SOURCE`.
 pub fn read_source<S: Source>(alloc: Global, src: &mut S) -> Result<Vec<u8>, SourceRefusal>
+    requires not_ended { S.ended src.old ≡ false }
     ensures told { (bytes : List ℕ) → S.left src.old ≡ Some bytes → IsReading bytes (S.left src.new) result }
     ensures small { IfOk result (λ v. length v.items ≤ max_source) }
+    ensures taken { TakesAtMost (max_source + max_part) (S.left src.old) (S.left src.new) }
     ensures counted { IsFaultCount (is_unread result) (S.faults src.old) (S.faults src.new) }
 {
     let mut bytes = Vec::new(alloc);

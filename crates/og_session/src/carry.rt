@@ -1,5 +1,5 @@
 //! Carries out a command, up to its fault's line.
-ghost use Rattle.std.specs.Prelude.{◌≡◌, ◌≤◌, [], ◌∷◌, ℕ, List, Some, OnOk, IfErr};
+ghost use Rattle.std.specs.Prelude.{◌≡◌, ◌≤◌, [], ◌∷◌, ℕ, List, Some, OnOk, IfErr, false};
 ghost use Rattle.std.specs.List.{All};
 ghost use Rattle.std.specs.Io.KnownBytes.{Appends};
 ghost use Rattle.og_par.specs.Limits.{max_workers};
@@ -43,7 +43,8 @@ pub fn carry_out<H: Threads + Sync, S: Source, K: Sink, F: Files, G: Gate + Prog
     gate: &G,
     script: &mut Vec<u8>,
 ) -> Result<(), Stop>
-    requires { db.old ≡ [] }
+    requires empty { db.old ≡ [] }
+    requires not_ended { S.ended src.old ≡ false }
     ensures told { (source : List ℕ) (start : Folder) (run : Run) → (IsRun words.now → S.left src.old ≡ Some source) → F.folder files.old ≡ Some start → IsDefinedRun words.now source start run →
         (text : List ℕ) × Appends (K.written out.old) (K.written out.new) text × EndsUnreported run start db.new (F.folder files.new) text result }
     ensures drained { (source : List ℕ) → IsRun words.now → S.left src.old ≡ Some source → OnOk result (S.left src.new ≡ Some []) }

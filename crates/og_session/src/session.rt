@@ -1,6 +1,6 @@
 //! The top call: the words, the source and the files in, the output, the files, the database and the exit
 //! status out.
-ghost use Rattle.std.specs.Prelude.{◌≡◌, [], ◌∷◌, ℕ, List, Some, OnOk, IfErr};
+ghost use Rattle.std.specs.Prelude.{◌≡◌, [], ◌∷◌, ℕ, List, Some, OnOk, IfErr, false};
 ghost use Rattle.std.specs.Io.KnownBytes.{Appends};
 ghost use Rattle.og_io.specs.Folders.{Folder};
 ghost use Rattle.og_faults.specs.Counts.{IsAbsenceCount, IsFaultCount, is_file_fault, is_read_fault, is_unput, is_write_fault};
@@ -56,7 +56,8 @@ pub fn run<H: Threads + Sync, S: Source, K: Sink, F: Files>(
     files: &mut F,
     db: &mut Db,
 ) -> u8
-    requires { db.old ≡ [] }
+    requires empty { db.old ≡ [] }
+    requires not_ended { S.ended src.old ≡ false }
     ensures headline { Headline (record {
       words = words.now;
       left = S.left src.old;
@@ -92,7 +93,8 @@ pub fn run_gated<H: Threads + Sync, S: Source, K: Sink, F: Files, G: Gate + Sync
     db: &mut Db,
     gate: &G,
 ) -> u8
-    requires { db.old ≡ [] }
+    requires empty { db.old ≡ [] }
+    requires not_ended { S.ended src.old ≡ false }
     ensures headline { Headline (record {
       words = words.now;
       left = S.left src.old;
@@ -129,7 +131,8 @@ pub fn run_located<H: Threads + Sync, S: Source, K: Sink, F: Files, G: Gate + Pr
     db: &mut Db,
     gate: &G,
 ) -> Ended
-    requires { db.old ≡ [] }
+    requires empty { db.old ≡ [] }
+    requires not_ended { S.ended src.old ≡ false }
     ensures headline { Headline (record {
       words = words.now;
       left = S.left src.old;
@@ -178,7 +181,8 @@ fn run_to_end<H: Threads + Sync, S: Source, K: Sink, F: Files, G: Gate + Progres
     gate: &G,
     script: &mut Vec<u8>,
 ) -> Result<(), Stop>
-    requires { db.old ≡ [] }
+    requires empty { db.old ≡ [] }
+    requires not_ended { S.ended src.old ≡ false }
     ensures told { (source : List ℕ) (start : Folder) (run : Run) → (IsRun words.now → S.left src.old ≡ Some source) → F.folder files.old ≡ Some start → IsDefinedRun words.now source start run →
         (text : List ℕ) × Appends (K.written out.old) (K.written out.new) text × Ends run start db.new (F.folder files.new) text result }
     ensures drained { (source : List ℕ) → IsRun words.now → S.left src.old ≡ Some source → OnOk result (S.left src.new ≡ Some []) }

@@ -2,7 +2,7 @@
 //! the command load.
 #![tactic(auto)]
 
-ghost use Rattle.std.specs.Prelude.{◌≡◌, ◌++◌, OnOk, drop, map, string_bytes};
+ghost use Rattle.std.specs.Prelude.{◌≡◌, ◌++◌, OnOk, drop, false, map, string_bytes};
 
 mod cleared;
 mod meter;
@@ -63,11 +63,14 @@ where
     R: Threads + Sync + AllocGlobal + fs::Files + Clock + Eprint,
     S: Drop,
     K: Drop,
+    requires { S.ended src ≡ false }
 {
     let meter = Meter::new(rt);
     let mut out = ClearedSink::new(&meter, out);
     let show = || watch(&meter);
-    let run = || run_and_tell(rt, words, src, &mut out, &meter);
+    let run = || -> u8
+        requires { S.ended src ≡ false }
+    { run_and_tell(rt, words, src, &mut out, &meter) };
     let ((), status) = thread::join(rt, show, run);
     status
 }
@@ -83,6 +86,7 @@ fn run_and_tell<R, S: Source, K: Sink, G: Gate + Progress + Sync>(
 where
     R: Threads + Sync + AllocGlobal + fs::Files + Eprint,
     S: Drop,
+    requires { S.ended src ≡ false }
 {
     let mut src = src;
     let mut files = FolderFiles::new(rt, rt.alloc());

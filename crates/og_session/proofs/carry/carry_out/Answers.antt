@@ -16,7 +16,7 @@ pub returns-in_err-command-clause-told : goal.returns-in_err-command-clause-told
 returns-in_err-command-clause-told g c source start run told files defined =
     let p = err_from_is_err_and c.from_residual.result c.from_residual.ensures.1 in
     let folder = g.F.Files.folder c.args.files.now in
-    let state = state_at_start start c.args.db.now folder c.no_statements.ensures c.requires files in (
+    let state = state_at_start start c.args.db.now folder c.no_statements.ensures c.requires.empty files in (
       [],
       Appends-nil _,
       rw (p.1, p.2) (words_end run start c.args.db.now folder state c.in_err-command.field-0.0
@@ -35,7 +35,7 @@ returns-in_err-stmts-clause-told g c source start run told files defined =
     let command = c.in_ok-command.command in
     let is = c.in_ok-command.ensures.command in
     let folder = g.F.Files.folder c.args.files.now in
-    let state = state_at_start start c.args.db.now folder c.no_statements.ensures c.requires files in (
+    let state = state_at_start start c.args.db.now folder c.no_statements.ensures c.requires.empty files in (
       [],
       Appends-nil _,
       rw (p.1, p.2) (script_end run start c.args.db.now folder state command source c.in_err-stmts.field-0.0 c.in_err-stmts.ensures.stops
