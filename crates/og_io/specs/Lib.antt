@@ -3,6 +3,9 @@ pub mod Counts
 pub mod Devices
 pub mod FileCounts
 pub mod Folders
+pub mod Held
+pub mod Neighbours
 pub mod Puts
+pub mod Replacing
 pub mod Sources
 pub mod WholeFiles

@@ -1,5 +1,5 @@
 -- Files of the system, read whole and written whole.
-use Rattle.std.specs.Prelude.{◌≡◌, ℕ, List, [], Option, Some, None, Result, Ok, Err, IfSome, IfOk, IsSomeAnd, Vec}
+use Rattle.std.specs.Prelude.{◌≡◌, ℕ, List, [], Option, Some, None, Result, Ok, Err, IfSome, Vec}
 use Rattle.std.specs.declared.alloc.Global.{Global}
 use Rattle.std.specs.Io.KnownBytes.{Appends}
 use Rattle.og_io.specs.declared.files.Found.{Found}
@@ -13,12 +13,6 @@ max_file = 1073741824
 -- these are the bytes that are told, where any are
 abbrev pub AreTold : Option (List ℕ) → List ℕ → Type 0
 AreTold told bytes = IfSome told (λ all. bytes ≡ all)
-
--- of a file that was opened all bytes are read, of none nothing, and a refusal stays
-abbrev pub ReadsOpened : {F : Type 0} → (F → Option (List ℕ)) → Result (Option F) FilesRefusal → Result (Option (Vec ℕ Global)) FilesRefusal → Type 0
-ReadsOpened remaining (Ok (Some file)) read = IfOk read (λ it. IsSomeAnd it (λ bytes. AreTold (remaining file) bytes.items))
-ReadsOpened remaining (Ok None) read = read ≡ Ok None
-ReadsOpened remaining (Err refusal) read = read ≡ Err refusal
 
 -- what was read is handed out; nothing is where there was no file or it was not read
 abbrev pub HandsOut : Result (Option (Vec ℕ Global)) FilesRefusal → Result Found FilesRefusal → List ℕ → Type 0

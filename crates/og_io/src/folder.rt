@@ -7,7 +7,9 @@ ghost use Rattle.og_io.specs.WholeFiles.{max_file, HandsOut, AreOfSomeFile, AreI
 
 use crate::files::{Files, FilesRefusal, Found};
 use crate::folder_names::is_below_folder;
-use crate::replaced::{open_file, read_opened, replace_file};
+use crate::reading::read_file;
+use crate::replaced::replace_file;
+use crate::std_system::StdSystem;
 use og_value::Text;
 use std::alloc::Global;
 use std::fs;
@@ -112,8 +114,8 @@ impl<'a, H: fs::Files> Files for FolderFiles<'a, H> {
         if !is_below_folder(name.bytes()) {
             return self.hand_out(Err(FilesRefusal::Failed));
         }
-        let opened = open_file(self.rt, name.as_str());
-        let read = read_opened(opened, *self.buffer.allocator());
+        let mut sys = StdSystem::new(self.rt, name.as_str());
+        let read = read_file(&mut sys, *self.buffer.allocator(), name.as_str());
         self.hand_out(read)
     }
 
@@ -140,7 +142,8 @@ impl<'a, H: fs::Files> Files for FolderFiles<'a, H> {
             self.faults = self.faults.saturating_add(1);
             return Err(FilesRefusal::Failed);
         }
-        match replace_file(self.rt, *self.buffer.allocator(), name.as_str(), bytes) {
+        let mut sys = StdSystem::new(self.rt, name.as_str());
+        match replace_file(&mut sys, *self.buffer.allocator(), name.as_str(), bytes) {
             Err(FilesRefusal::Failed) => {
                 self.faults = self.faults.saturating_add(1);
                 Err(FilesRefusal::Failed)

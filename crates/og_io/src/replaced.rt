@@ -1,206 +1,128 @@
-// A file of the system, read whole and replaced whole.
-ghost use Rattle.std.specs.Prelude.{◌≡◌, ◌≢◌, ◌<◌, ◌≤◌, ◌+◌, ◌↔◌, Some, None, Ok, Err, IfOk, IfSome, IsOkAnd, IsErrAnd, OnOk, false, length};
-ghost use Rattle.std.specs.Fs.{file_type, IsFile};
-ghost use Rattle.std.specs.Io.KnownBytes.{Appends};
-ghost use Rattle.std.specs.IoError.{error_kind};
-ghost use Rattle.og_base.specs.Told.{Rose};
-ghost use Rattle.og_io.specs.Sources.{max_part, TakesAtMost};
-ghost use Rattle.og_io.specs.WholeFiles.{max_file, AreTold, ReadsOpened, AreInSomeFile};
+// A file of the system, replaced whole.
+ghost use Rattle.std.specs.Prelude.{◌≡◌, ◌≤◌, ◌⊎◌, IsTrue, true, [], Some, None, Err, IfOk, OnOk, OnErr, string_bytes};
+ghost use Rattle.og_base.specs.Told.{Rose, HasCause};
+ghost use Rattle.og_io.specs.Folders.{IsSame, IsSameBut};
+ghost use Rattle.og_io.specs.Neighbours.{IsFolderOf, IsNumbered, IsNear};
+ghost use Rattle.og_io.specs.Replacing.{IsReplaced, IsSameButKept, AreTaken, max_names};
+ghost use Rattle.og_io.specs.WholeFiles.{AreInSomeFile};
 
 use crate::files::FilesRefusal;
-use crate::source::Source;
-use crate::standard::StdSource;
+use crate::source::Failed;
+use crate::system::{Kind, System};
 use og_base::NoMemory;
 use std::alloc::Global;
-use std::fs::{File, Files, Metadata, OpenFile, OpenOptions};
-use std::io::{ErrorKind, Read, Write};
-use std::{fs, io};
 
-/// The most bytes of a file that is read.
-pub const MAX_FILE: usize = 1_073_741_824;
-
-// The most bytes that one call asks for.
-const PART: usize = 65_536;
-
-// How many names a new file is given until one is free.
+// How many paths are tried for a new file until one is free.
 const MAX_NAMES: u32 = 10_000;
 
-// What a name stands for.
-enum Kind {
-    // Nothing: the name is free.
-    Nothing,
-    // A file.
-    File,
-    // What is no file, or the system does not say.
-    Other,
-}
-
-// What the name stands for of which the system said this.
-fn kind_of(found: io::Result<Metadata>) -> Kind
-    ensures nothing { (result ≡ Kind.Nothing) ↔ IsErrAnd found (λ e. error_kind e ≡ ErrorKind.NotFound) }
-    ensures file { (result ≡ Kind.File) ↔ IsOkAnd found (λ m. IsFile (file_type m)) }
-{
-    match found {
-        Ok(found) => {
-            if found.is_file() {
-                Kind::File
-            } else {
-                Kind::Other
-            }
-        }
-        Err(error) if error.kind() == ErrorKind::NotFound => Kind::Nothing,
-        Err(_) => Kind::Other,
-    }
-}
-
-// Opens the file of the name for reading, if it has one. What is no file is refused: a folder, or a pipe,
-// on which opening waits.
-pub(crate) fn open_file<H: Files>(rt: &H, name: &str) -> Result<Option<H::File>, FilesRefusal> {
-    match kind_of(fs::metadata(rt, name)) {
-        Kind::Nothing => Ok(None),
-        Kind::File => opened(File::open(rt, name)),
-        Kind::Other => Err(FilesRefusal::Failed),
-    }
-}
-
-// The file that was opened, or none where there is no such file.
-fn opened<F: Drop>(opening: io::Result<F>) -> Result<Option<F>, FilesRefusal>
-    ensures file { IfOk opening (λ file. result ≡ Ok (Some file)) }
-    ensures nothing { (result ≡ Ok None) ↔ IsErrAnd opening (λ e. error_kind e ≡ ErrorKind.NotFound) }
-    ensures failed { (result ≡ Err FilesRefusal.Failed) ↔ IsErrAnd opening (λ e. error_kind e ≢ ErrorKind.NotFound) }
-{
-    match opening {
-        Ok(file) => Ok(Some(file)),
-        Err(error) if error.kind() == ErrorKind::NotFound => Ok(None),
-        Err(_) => Err(FilesRefusal::Failed),
-    }
-}
-
-// All bytes of the file that was opened, or none where there is no file.
-pub(crate) fn read_opened<F: Read + Drop>(
-    opened: Result<Option<F>, FilesRefusal>,
-    alloc: Global,
-) -> Result<Option<Vec<u8>>, FilesRefusal>
-    ensures whole { ReadsOpened F.remaining opened result }
-    ensures small { IfOk result (λ it. IfSome it (λ v. length v.items ≤ max_file)) }
-{
-    let Some(file) = opened? else {
-        return Ok(None);
-    };
-    let bytes = read_whole(alloc, &mut StdSource::new(file))?;
-    Ok(Some(bytes))
-}
-
-// The bytes of the source, read to its end. `Failed` where the source failed, or has more than `MAX_FILE`.
-fn read_whole<S: Source>(alloc: Global, src: &mut S) -> Result<Vec<u8>, FilesRefusal>
-    requires not_ended { S.ended src.old ≡ false }
-    ensures whole { IfOk result (λ v. AreTold (S.left src.old) v.items) }
-    ensures small { IfOk result (λ v. length v.items ≤ max_file) }
-    ensures taken { TakesAtMost (max_file + max_part) (S.left src.old) (S.left src.new) }
-    ensures failed { result ≡ Err FilesRefusal.Failed → ¬ Rose (S.faults src.old) (S.faults src.new)
-        → IfSome (S.left src.old) (λ all. max_file < length all) }
-{
-    let mut bytes = Vec::new(alloc);
-    let mut part = [0u8; PART];
-    'parts: for _ in 0..MAX_FILE + 1 {
-        let Ok(count) = src.next(&mut part) else {
-            return Err(FilesRefusal::Failed);
-        };
-        if count == 0 {
-            return Ok(bytes);
-        }
-        if bytes.len() > MAX_FILE - count {
-            return Err(FilesRefusal::Failed);
-        }
-        let Ok(()) = bytes.extend_from_slice(&part[..count]) else {
-            return Err(FilesRefusal::NoMemory);
-        };
-    }
-    // Each turn brought a byte, and no more than the limit came.
-    unreachable!()
-}
-
-// Makes the file, or replaces it, by a new file beside it that takes its name. `Failed` where it may not
-// be written or the system fails; then no new file is left, where the system lets it be removed.
-pub(crate) fn replace_file<H: Files>(
-    rt: &H,
+// Makes the file of the name, or replaces it, by a new file beside it that takes its name. `Failed` where it
+// may not be written, no path is free for the new file, or the system fails; then no new file is left, where
+// the system lets it be removed.
+pub(crate) fn replace_file<S: System>(
+    sys: &mut S,
     alloc: Global,
     name: &str,
     bytes: &[u8],
 ) -> Result<(), FilesRefusal>
-    ensures written { OnOk result (AreInSomeFile H.File.contents bytes.now) }
+    requires name { name.now ≡ (S.scope sys.old).name }
+    ensures ok { OnOk result (IsTrue S.tells → IsReplaced name.now bytes.now (S.files sys.old) (S.files sys.new)) }
+    ensures refused { OnErr result (IsTrue S.tells → IsSameButKept (S.files sys.old) (S.files sys.new) (S.kept sys.old) (S.kept sys.new)) }
+    ensures want { result ≡ Err FilesRefusal.NoMemory → IsTrue S.tells → IsSame (S.files sys.old) (S.files sys.new) }
+    ensures failed { result ≡ Err FilesRefusal.Failed → IsTrue S.tells → Rose (S.faults sys.old) (S.faults sys.new) ⊎ AreTaken name.now max_names (S.files sys.old) }
+    ensures later { S.faults sys.old ≤ S.faults sys.new }
+    ensures whole { OnOk result (AreInSomeFile S.contents bytes.now) }
 {
-    if !may_write(rt, name) {
+    let Ok(()) = may_take(sys, name) else {
         return Err(FilesRefusal::Failed);
-    }
+    };
     'names: for number in 0..MAX_NAMES {
         let other = beside(alloc, name, number)?;
-        match File::create_new(rt, other.as_str()) {
-            Ok(file) => return put_in_place(rt, file, other.as_str(), name, bytes),
-            Err(error) => {
-                if error.kind() != ErrorKind::AlreadyExists {
-                    return Err(FilesRefusal::Failed);
-                }
-            }
+        if other.as_str() == name {
+            continue;
+        }
+        match sys.create_new(other.as_str()) {
+            Ok(Some(file)) => return placed(sys, file, other.as_str(), name, bytes),
+            Ok(None) => {}
+            Err(Failed) => return Err(FilesRefusal::Failed),
         }
     }
     Err(FilesRefusal::Failed)
 }
 
-// Whether the name is free, or has a file that may be written.
-fn may_write<H: Files>(rt: &H, name: &str) -> bool {
-    match kind_of(fs::metadata(rt, name)) {
-        Kind::Nothing => true,
-        Kind::File => OpenOptions::new().write(true).open(rt, name).is_ok(),
-        Kind::Other => false,
+// Whether the name is free, or has a plain file that may be written.
+fn may_take<S: System>(sys: &mut S, name: &str) -> Result<(), Failed>
+    requires near { IsNear (S.scope sys.old).name name.now }
+    ensures scope { S.scope sys.new ≡ S.scope sys.old }
+    ensures files { IsTrue S.tells → IsSame (S.files sys.old) (S.files sys.new) }
+    ensures may_take { OnOk result ((S.scope sys.old).may_take name.now ≡ true) }
+    ensures cause { HasCause (S.faults sys.old) (S.faults sys.new) result }
+    ensures kept { S.kept sys.new ≡ S.kept sys.old }
+{
+    match sys.kind(name) {
+        Kind::Nothing => Ok(()),
+        Kind::File => sys.may_write(name),
+        Kind::Other => Err(Failed),
     }
 }
 
-// The name of that number for a new file in the folder of the file.
-fn beside(alloc: Global, name: &str, number: u32) -> Result<String, NoMemory> {
-    match name.rsplit_once('/') {
-        Some((folder, _)) => Ok(format!(in alloc; "{folder}/.ongq-{number}")?),
-        None => Ok(format!(in alloc; ".ongq-{number}")?),
+// The front of the name up to its last slash, with it.
+fn folder_of(name: &str) -> &str
+    ensures { IsFolderOf name.now result.now }
+{
+    match name.rfind('/') {
+        Some(at) => &name[..at + 1],
+        None => "",
     }
 }
 
-// Fills the new file and gives it the name, or removes it.
-fn put_in_place<H: Files>(
-    rt: &H,
-    file: H::File,
+// The path of that number for a new file in the folder of the name.
+fn beside(alloc: Global, name: &str, number: u32) -> Result<String, NoMemory>
+    ensures { IfOk result (λ path. IsNumbered name.now number (string_bytes path)) }
+{
+    let folder = folder_of(name);
+    Ok(format!(in alloc; "{folder}.ongq-{number}")?)
+}
+
+// Fills the new file and lets it take the name, or removes it.
+fn placed<S: System>(
+    sys: &mut S,
+    file: S::File,
     other: &str,
     name: &str,
     bytes: &[u8],
 ) -> Result<(), FilesRefusal>
-    ensures written { OnOk result (AreInSomeFile H.File.contents bytes.now) }
+    requires name { name.now ≡ (S.scope sys.old).name }
+    requires near { IsNear (S.scope sys.old).name other.now }
+    requires may_take { (S.scope sys.old).may_take name.now ≡ true }
+    requires apart { ¬ (other.now ≡ name.now) }
+    requires path { IsTrue S.tells → S.path_of file ≡ other.now }
+    requires empty { IsTrue S.tells → S.files sys.old other.now ≡ Some [] }
+    ensures there { OnOk result (IsTrue S.tells → S.files sys.new name.now ≡ Some bytes.now) }
+    ensures gone { OnOk result (IsTrue S.tells → S.files sys.new other.now ≡ None) }
+    ensures others { (path : _) → ¬ (path ≡ other.now) → ¬ (path ≡ name.now) → IsTrue S.tells → S.files sys.new path ≡ S.files sys.old path }
+    ensures refused { OnErr result (IsTrue S.tells → (S.files sys.new name.now ≡ S.files sys.old name.now) × ((S.files sys.new other.now ≡ None) ⊎ Rose (S.kept sys.old) (S.kept sys.new))) }
+    ensures cause { HasCause (S.faults sys.old) (S.faults sys.new) result }
+    ensures refusal { OnErr result (result ≡ Err FilesRefusal.Failed) }
+    ensures whole { OnOk result (AreInSomeFile S.contents bytes.now) }
 {
-    if placed(file, bytes, || fs::rename(rt, other, name)).is_ok() {
+    if filled(sys, file, bytes).is_ok() && sys.rename(other, name).is_ok() {
         return Ok(());
     }
-    let _ = fs::remove_file(rt, other);
+    let _ = sys.remove(other);
     Err(FilesRefusal::Failed)
 }
 
-// Fills the file and closes it, and only then lets it take its name.
-fn placed<F: Write + OpenFile + Drop, N: FnOnce() -> io::Result<()>>(
-    file: F,
-    bytes: &[u8],
-    take_name: N,
-) -> io::Result<()>
-    requires { N.IsAlwaysCallable take_name }
-    ensures written { OnOk result (AreInSomeFile F.contents bytes.now) }
-    ensures named { OnOk result (N.post take_name result) }
+// Fills the file and writes it through to the device.
+fn filled<S: System>(sys: &mut S, file: S::File, bytes: &[u8]) -> Result<(), Failed>
+    ensures scope { S.scope sys.new ≡ S.scope sys.old }
+    ensures written { OnOk result (IsTrue S.tells → S.files sys.old (S.path_of file) ≡ Some [] → S.files sys.new (S.path_of file) ≡ Some bytes.now) }
+    ensures synced { OnOk result (IsTrue S.tells → S.synced sys.new (S.path_of file) ≡ S.files sys.new (S.path_of file)) }
+    ensures others { IsTrue S.tells → IsSameBut (S.path_of file) (S.files sys.old) (S.files sys.new) }
+    ensures cause { HasCause (S.faults sys.old) (S.faults sys.new) result }
+    ensures kept { S.kept sys.new ≡ S.kept sys.old }
+    ensures whole { OnOk result (AreInSomeFile S.contents bytes.now) }
 {
     let mut file = file;
-    write_through(&mut file, bytes)?;
-    drop(file);
-    take_name()
-}
-
-// Writes the bytes through to the device.
-fn write_through<F: Write + OpenFile>(file: &mut F, bytes: &[u8]) -> io::Result<()>
-    ensures { OnOk result (Appends (F.contents file.old) (F.contents file.new) bytes.now) }
-{
-    file.write_all(bytes)?;
-    file.sync_all()
+    sys.write(&mut file, bytes)?;
+    sys.sync(file)
 }

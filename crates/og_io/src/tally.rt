@@ -8,7 +8,7 @@ use crate::source::Failed;
 pub(crate) struct Tally {
     fail_at: Option<u64>,
     calls: u64,
-    faults: u64,
+    pub(crate) faults: u64,
 }
 
 impl Tally {
