@@ -1,6 +1,8 @@
-mod Asked
-mod Borrowed
+mod AskedCommands
 mod CommandChoice
+mod Commands
+mod Forms
 mod OneCommand
 mod Readings
-mod Taken
+mod SaidCommands
+mod WordKinds

@@ -1,6 +1,6 @@
 -- The command line as clap sees it.
-use Rattle.std.specs.Prelude.{◌||◌, ℕ, Bool, List, codes, nat_eq, Some, true}
-use Rattle.std.specs.List.{starts_with}
+use Rattle.std.specs.Prelude.{◌||◌, ◌&&◌, ℕ, Bool, List, [], ◌∷◌, codes, length, nat_le, Some, true, false, nat_eq}
+use Rattle.std.specs.List.{list_all, starts_with}
 use Rattle.std.specs.Str.{bytes_eq}
 use Rattle.clap.specs.Words.{App, Rule, Text, new_app, new_rule, with_rule, with_subcommand}
 use Rattle.og_words.specs.Grammar.{is_value}
@@ -36,3 +36,12 @@ ongq = with_subcommand (with_subcommand (with_subcommand (plain (new_app (codes 
 -- a word that clap is asked about: a value, or the option with or without its value in it
 abbrev pub is_asked : List ℕ → Bool
 is_asked word = is_value word || (bytes_eq word (codes "--workers") || starts_with nat_eq word (codes "--workers="))
+
+-- the word of a command
+abbrev pub is_name : List ℕ → Bool
+is_name word = bytes_eq word (codes "run") || (bytes_eq word (codes "at") || bytes_eq word (codes "load"))
+
+-- words that clap is asked about: that of a command, and at most three more
+abbrev pub are_asked : List (List ℕ) → Bool
+are_asked [] = false
+are_asked (first ∷ rest) = is_name first && (nat_le (length rest) 3 && list_all is_asked rest)

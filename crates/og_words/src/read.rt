@@ -1,14 +1,14 @@
 //! Reading the words.
-ghost use Rattle.std.specs.Prelude.{◌≡◌, ◌≢◌, Err, IfOk, map};
-ghost use Rattle.std.specs.List.{list_all};
+ghost use Rattle.std.specs.Prelude.{◌≡◌, ◌≢◌, Err, IfOk, map, true};
 ghost use Rattle.clap.specs.Words.{kind_of};
 ghost use Rattle.og_words.specs.Grammar.{IsCommand};
-ghost use Rattle.og_words.specs.Shape.{is_asked};
+ghost use Rattle.og_words.specs.Shape.{are_asked};
 ghost use Rattle.og_words.specs.declared.command.Command as commands;
 ghost use Rattle.og_words.specs.declared.command.WordsRefusal.{WordsRefusal};
 
+use crate::asked::are_asked;
 use crate::command::{Command, WordsRefusal};
-use crate::grammar::{command_of, is_value};
+use crate::matches::command_of;
 use crate::shape::ongq_command;
 use clap::Error;
 use clap::error::ErrorKind;
@@ -25,8 +25,7 @@ pub fn read_words(alloc: Global, words: &Words) -> Result<Command, WordsRefusal>
     if !are_asked(list.as_slice()) {
         return Err(WordsRefusal::NoCommand);
     }
-    ask_clap(alloc, list.as_slice())?;
-    command_of(alloc, list.as_slice())
+    ask_clap(alloc, list.as_slice())
 }
 
 // The words as texts.
@@ -40,27 +39,15 @@ fn listed<'a>(alloc: Global, words: &'a Words) -> Result<Vec<&'a str>, AllocErro
     Ok(list)
 }
 
-// Whether each word is one that clap is asked about.
-fn are_asked(words: &[&str]) -> bool
-    ensures { result ≡ list_all (λ w. is_asked w.now) words.now }
-{
-    words.iter().all(|word| is_asked(word))
-}
-
-// Whether clap is asked about the word: a value, or the option with or without its value in it.
-fn is_asked(word: &str) -> bool
-    ensures { result ≡ is_asked word.now }
-{
-    is_value(word) || word == "--workers" || word.as_bytes().starts_with(b"--workers=".as_slice())
-}
-
-// Has clap read the words.
-fn ask_clap<'a>(alloc: Global, words: &'a [&'a str]) -> Result<(), WordsRefusal>
-    ensures { result ≡ Err WordsRefusal.NoCommand → (c : commands.Command) → ¬ IsCommand (map (λ w. w.now) words.now) c }
+// The command that the words are, by clap's matches.
+fn ask_clap<'a>(alloc: Global, words: &'a [&'a str]) -> Result<Command, WordsRefusal>
+    requires { are_asked (map (λ w. w.now) words.now) ≡ true }
+    ensures command { IfOk result (IsCommand (map (λ w. w.now) words.now)) }
+    ensures no_command { result ≡ Err WordsRefusal.NoCommand → (c : commands.Command) → ¬ IsCommand (map (λ w. w.now) words.now) c }
 {
     let command = ongq_command(alloc)?;
     match command.try_get_matches_from(words) {
-        Ok(_matches) => Ok(()),
+        Ok(matches) => command_of(alloc, &matches),
         Err(error) => Err(refusal_of(&error)),
     }
 }
