@@ -1,3 +1,4 @@
+mod ArgumentLemmas
 mod AskedCommands
 mod CommandChoice
 mod Commands

@@ -2,14 +2,14 @@
 //! the command load.
 #![tactic(auto)]
 
-ghost use Rattle.std.specs.Prelude.{◌≡◌, ◌++◌, OnOk, drop, false, map, string_bytes};
+ghost use Rattle.std.specs.Prelude.{◌≡◌, false};
 
 mod cleared;
 mod meter;
 
 use crate::cleared::ClearedSink;
 use crate::meter::{Meter, watch};
-use og_base::{NoMemory, Words};
+use og_base::Words;
 use og_db::Db;
 use og_faults::Stop;
 use og_io::{Files, FolderFiles, Sink, Source, StdSink, StdSource};
@@ -17,22 +17,17 @@ use og_par::{Gate, OpenGate};
 use og_progress::Progress;
 use og_report::{Scene, report};
 use og_session::run_located;
-use std::env::{Args, Env};
-use std::io::{Eprint, ErrorKind, IsTerminal};
+use og_words::{NO_MEMORY, words_of};
+use std::env::Env;
+use std::io::{Eprint, IsTerminal};
 use std::process::ExitCode;
 use std::thread::Threads;
 use std::time::Clock;
 use std::{env, fs, thread};
 
-// The exit status where memory ran out for the words.
-const NO_MEMORY: u8 = 9;
-
-// The exit status where the words could not be read for another cause.
-const NO_WORDS: u8 = 10;
-
 fn main(rt: HostRuntime) -> ExitCode {
     let mut words = Words::new(rt.alloc());
-    if let Err(status) = read_words(&rt, &mut words) {
+    if let Err(status) = words_of(env::args(&rt), &mut words) {
         let _ = rt.eprint(cause_of(status));
         return ExitCode::from(status);
     }
@@ -133,29 +128,4 @@ fn cause_of(status: u8) -> &'static str {
     } else {
         "the words of the command line could not be read\n"
     }
-}
-
-// Reads the words after the program's name.
-fn read_words(rt: &(impl Env + AllocGlobal), words: &mut Words) -> Result<(), u8> {
-    let args = match env::args(rt) {
-        Ok(args) => args,
-        Err(error) if error.kind() == ErrorKind::OutOfMemory => return Err(NO_MEMORY),
-        Err(_) => return Err(NO_WORDS),
-    };
-    match add_words(args, words) {
-        Ok(()) => Ok(()),
-        Err(_) => Err(NO_MEMORY),
-    }
-}
-
-// Adds the arguments after the first, all of them, in order.
-fn add_words(args: Args, words: &mut Words) -> Result<(), NoMemory>
-    ensures { OnOk result (words.new ≡ words.old ++ map string_bytes (drop 1 args.rest.items)) }
-{
-    let mut args = args;
-    args.next();
-    'words: while let Some(word) = args.next() {
-        words.add(word.as_str())?;
-    }
-    Ok(())
 }

@@ -1,7 +1,7 @@
 use Rattle.std.proofs.Common.{◌++◌, ◌∷◌, [], map, string_bytes, sym, ap, append_assoc, ◌∙◌}
 use Rattle.std.proofs.lemmas.List.{append-nil}
-use Rattle.ongq.proofs.ArgumentLemmas.{first_gone, next_one, none_left}
-use Rattle.ongq.proofs.add_words.Goals as goal
+use Rattle.og_words.proofs.ArgumentLemmas.{first_gone, next_one, none_left}
+use Rattle.og_words.proofs.arguments.add_words.Goals as goal
 
 pub words-init : goal.words-init
 words-init c = ap (λ ws. c.args.words.now ++ map string_bytes ws) (first_gone c.next.result c.args.args c.next.new.self c.next.ensures.cases)
