@@ -1,4 +1,4 @@
--- The scripts of the commands `at` and `load`, as trees.
+-- The workers of commands, and the scripts of `at` and `load`, as trees.
 use Rattle.std.specs.Prelude.{◌+◌, ◌*◌, ◌%◌, ◌==◌, ◌++◌, ℕ, ℤ, pos, List, [], ◌∷◌, Some, None, map, codes, if◌then◌else◌}
 use Rattle.std.specs.List.{range_with_len}
 use Rattle.og_base.specs.Calendar.{last_day}
@@ -17,8 +17,18 @@ use Rattle.og_syntax.specs.declared.tree.QueryText.{QueryText}
 use Rattle.og_syntax.specs.declared.tree.Stmt.{Stmt}
 use Rattle.og_syntax.specs.declared.tree.Stmt.TheVariants as s
 use Rattle.og_syntax.specs.Clauses.{column_of, item_of, table_of, core_of, query_of}
+use Rattle.og_words.specs.declared.command.Command.{Command}
+use Rattle.og_words.specs.declared.command.Command.TheVariants as commands
 use Rattle.og_script.specs.declared.load.Side.{Side}
 use Rattle.og_script.specs.declared.load.Side.TheVariants as side
+
+-- ---- the workers
+
+-- how many workers the command asks for
+abbrev pub asked : Command → ℕ
+asked (commands.Run workers) = workers
+asked (commands.At file day) = 1
+asked (commands.Load rows workers) = workers
 
 -- ---- the command at
 

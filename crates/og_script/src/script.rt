@@ -6,6 +6,7 @@ ghost use Rattle.og_words.specs.Grammar.{IsCommand};
 ghost use Rattle.og_words.specs.declared.command.Command.TheVariants as commands;
 ghost use Rattle.og_faults.specs.Counts.{IsFaultCount, is_read_fault};
 ghost use Rattle.og_io.specs.Sources.{max_part, TakesAtMost};
+ghost use Rattle.og_script.specs.Commands.{asked};
 ghost use Rattle.og_script.specs.Stops.{IsRunCommand, IsScriptStop, IsSourceOf, IsStopBefore};
 ghost use Rattle.og_script.specs.LiveTexts.{IsLiveStmt};
 ghost use Rattle.og_script.specs.Kept.{IsKeptAt};
@@ -24,6 +25,7 @@ use std::alloc::Global;
 /// How many workers the command asks for.
 pub fn workers_of(command: &Command) -> usize
     requires { (words : List (List ℕ)) × IsCommand words command.now }
+    ensures asked { result ≡ asked command.now }
     ensures least { 1 ≤ result }
     ensures most { result ≤ max_workers }
 {
