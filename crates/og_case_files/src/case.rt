@@ -65,6 +65,14 @@ impl Case {
             _ => false,
         }
     }
+
+    /// Whether the words are `run --workers 2`.
+    pub fn runs_by_two(&self) -> bool {
+        let [run, option, number] = self.words.as_slice() else {
+            return false;
+        };
+        run.as_str() == "run" && option.as_str() == "--workers" && number.as_str() == "2"
+    }
 }
 
 /// A script and files with which cases may begin.

@@ -73,15 +73,17 @@ impl Gate for Meeting {
     }
 }
 
-/// Runs the case by two workers that have to be at work at once.
+/// Runs the case by two workers that have to be at work at once: those that its words ask for, or, where they leave
+/// the number open, those of the option after them.
 pub fn try_meeting<H: Threads + Sync + AllocGlobal>(
     rt: &H,
     case: &Case,
     report: &mut Report,
 ) -> Result<(), Refusal> {
     let meeting = Meeting::new();
+    let workers = if case.leaves_workers() { Some(2) } else { None };
     let setting = Setting {
-        workers: Some(2),
+        workers,
         ..Setting::WHOLE
     };
     let outcome = ran_gated(rt, case, case.script.as_slice(), setting, Some(&meeting))?;

@@ -19,8 +19,8 @@ use std::thread::Threads;
 /// In which ways each case is run.
 #[derive(Clone, Copy, Debug)]
 pub enum Ways {
-    /// Once, with devices that do not fail, and where the words are `load` and a number once more by two workers that
-    /// have to be at work at once.
+    /// Once, with devices that do not fail, and where the words are `load` and a number, or `run --workers 2`, once
+    /// more by two workers that have to be at work at once.
     Once,
     /// Once, and again in each way of docs/CASES.md.
     All,
@@ -42,12 +42,15 @@ pub fn try_case<H: Threads + Sync + AllocGlobal>(
     }
     try_told(rt, case, report)?;
     match ways {
-        Ways::Once if case.has_own_script() && case.leaves_workers() => {
-            try_meeting(rt, case, report)
-        }
+        Ways::Once if is_by_two(case) => try_meeting(rt, case, report),
         Ways::Once => Ok(()),
         Ways::All => try_again(rt, case, &whole, report),
     }
+}
+
+// Whether the words ask for two workers, or are `load` and a number, so that two can be asked for.
+fn is_by_two(case: &Case) -> bool {
+    case.runs_by_two() || case.has_own_script() && case.leaves_workers()
 }
 
 // Runs the case again in each way, where it went well as it stands.
