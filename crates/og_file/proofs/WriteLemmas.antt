@@ -12,6 +12,7 @@ use Rattle.csv.specs.declared.writer.QuoteStyle.TheVariants as style
 use Rattle.csv.specs.declared.writer.Writer.{Writer}
 use Rattle.csv.proofs.RoundTrip.{rows_text}
 use Rattle.csv.proofs.WriteFacts.{row-more}
+use Rattle.og_file.specs.PlainFiles.{text_of_records}
 use Rattle.og_file.specs.Writers.{HasText, HasFields, IsBegun, file_writer}
 
 -- ---- a writer of records of any lengths writes each as the default writer does
@@ -183,3 +184,9 @@ pub rows_push : (rows : List (List (List ℕ))) (row : List (List ℕ)) → rows
 unfolding rows_text
 rows_push [] row = append-nil (row_text default_writer row)
 rows_push (first ∷ rows) row = ap (λ t. row_text default_writer first ++ t) (rows_push rows row) ∙ sym (append_assoc (row_text default_writer first) (rows_text rows) (row_text default_writer row))
+
+-- the same, by its definition here
+pub rows_text-plain : (rows : List (List (List ℕ))) → rows_text rows ≡ text_of_records rows
+unfolding rows_text text_of_records
+rows_text-plain [] = refl
+rows_text-plain (row ∷ rows) = ap (λ t. row_text default_writer row ++ t) (rows_text-plain rows)

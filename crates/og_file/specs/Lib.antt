@@ -1,4 +1,5 @@
 pub mod BadRecords
+pub mod PlainFiles
 pub mod Readers
 pub mod Records
 pub mod SavedFile

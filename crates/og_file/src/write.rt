@@ -5,7 +5,8 @@ ghost use Rattle.csv.specs.Writing.{default_writer, row_text};
 ghost use Rattle.csv.proofs.RoundTrip.{rows_text};
 ghost use Rattle.og_value.specs.Cells.{cell_text};
 ghost use Rattle.og_value.specs.Words.{IsLowerWord};
-ghost use Rattle.og_file.specs.SavedFile.{IsVersionTwo, kind_word};
+ghost use Rattle.og_file.specs.PlainFiles.{IsPlainFile};
+ghost use Rattle.og_file.specs.SavedFile.{kind_word};
 ghost use Rattle.og_file.specs.Writers.{HasText, HasFields};
 ghost use Rattle.og_file.specs.Writing.{IsOfKinds, IsReadAgain, column_text, count_text, days_text, records_of, row_record};
 
@@ -17,8 +18,9 @@ use og_rel::Rel;
 use og_value::{Column, Kind, Row, Schema, Value, write_cell};
 use std::alloc::Global;
 
-/// The saved file of version 2 of the relation (docs/FORMATS.md, "Saved files"): as many rows, each on
-/// its days. `progress` is told how many rows are written. Refused only where memory runs out.
+/// The plain saved file of the relation (docs/FORMATS.md, "Saved files"): version 2, as many rows, each on
+/// its days, in the bytes that csv writes by default. `progress` is told how many rows are written. Refused
+/// only where memory runs out.
 pub fn write_saved<P: Progress>(
     alloc: Global,
     schema: &Schema,
@@ -26,7 +28,7 @@ pub fn write_saved<P: Progress>(
     progress: &P,
 ) -> Result<Vec<u8>, NoMemory>
     requires fits { All (λ p. IsOfKinds schema.now p.0) rel.now }
-    ensures { IfOk result (λ bytes. IsVersionTwo bytes.items schema.now rel.now (length rel.now)) }
+    ensures { IfOk result (λ bytes. IsPlainFile bytes.items schema.now rel.now) }
 {
     schema.bounded();
     rel.some_days();
