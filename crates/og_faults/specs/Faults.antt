@@ -29,12 +29,18 @@ fault_line (faults.RowCount statement said found) = file_line statement (in_file
 -- the status of a fault
 abbrev pub fault_status : Fault → ℕ
 fault_status faults.Words = 2
+fault_status faults.SourceTooLong = 3
+fault_status (faults.BadByte offset) = 3
+fault_status (faults.OpenText offset) = 3
+fault_status (faults.NumberRange offset) = 3
+fault_status (faults.Syntax statement) = 3
+fault_status (faults.TooDeep statement) = 3
+fault_status (faults.Literal statement) = 3
 fault_status (faults.Check statement refusal) = 4
 fault_status (faults.NoFile statement file) = 5
 fault_status (faults.Header statement) = 5
 fault_status (faults.Record statement number) = 5
 fault_status (faults.RowCount statement said found) = 5
-fault_status _ = 3
 
 -- the status of a run's end
 abbrev pub status_of : Result (Unit {0}) Stop → ℕ

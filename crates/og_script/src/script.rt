@@ -45,7 +45,7 @@ pub fn script_of<S: Source>(
     kept: &mut Vec<u8>,
 ) -> Result<Items<Stmt>, Stop>
     requires command { (words : List (List ℕ)) × IsCommand words command }
-    requires not_ended { S.ended src.old ≡ false }
+    requires not_ended { IsRunCommand command → S.ended src.old ≡ false }
     ensures script { (source : List ℕ) → IsSourceOf command (S.left src.old) source → IfOk result (IsScriptOf command source) }
     ensures live { IfOk result (All IsLiveStmt) }
     ensures stopped { (source : List ℕ) → IsSourceOf command (S.left src.old) source → IfErr result (IsScriptStop source) }

@@ -25,6 +25,7 @@ use Rattle.og_db.specs.Runs.{AreWithin, IsWorldOf, known_after, sizes_at, stored
 use Rattle.og_db.specs.Statements.{or_else}
 use Rattle.og_db.proofs.EffectLemmas.{AreBoth, within-found}
 use Rattle.og_db.proofs.WorldLemmas.{found-made_of}
+use Rattle.og_file.specs.PlainFiles.{IsPlainFile}
 use Rattle.og_file.specs.SavedFile.{Pair, IsSavedFault, IsSavedFile, IsVersionTwo}
 use Rattle.og_file.specs.TableFile.{IsTableFault, IsTableFile}
 use Rattle.og_file.specs.declared.refusal.FileRefusal.{FileRefusal}
@@ -70,8 +71,8 @@ module _ (start : Folder) (files : List (Held Relation)) where
         at (Some old) (Some now) others held = λ other another. subst (IsFileOf (found files other) (start other)) (sym (others other another)) (held other (λ none. none))
 
     -- once it was written it holds what is said, too
-    written_files : (h : Held Relation) (bytes : List ℕ) → HasFile new file (Some bytes) → IsVersionTwo bytes h.columns h.rows (length h.rows) → HoldFiles no_name start (kept_as file h ∷ files) new
-    written_files h bytes has version = at old new others held has
+    written_files : (h : Held Relation) (bytes : List ℕ) → HasFile new file (Some bytes) → IsPlainFile bytes h.columns h.rows → HoldFiles no_name start (kept_as file h ∷ files) new
+    written_files h bytes has plain = at old new others held has
       where
         at : (old new : Option Folder) → WhereTold (IsSameBut file) old new → HoldFiles no_name start files old → HasFile new file (Some bytes) → HoldFiles no_name start (kept_as file h ∷ files) new
         at None new others held has = absurd held
@@ -79,7 +80,7 @@ module _ (start : Folder) (files : List (Held Relation)) where
         at (Some old) (Some now) others held has = λ other _. by other (bytes_eq other file) refl
           where
             by : (other : List ℕ) (b : Bool) → bytes_eq other file ≡ b → IsFileOf (cond b (Some (kept_as file h)) (found files other)) (start other) (now other)
-            by other true here = (bytes, ap now (same_text other file (sym here)) ∙ has, version)
+            by other true here = (bytes, ap now (same_text other file (sym here)) ∙ has, plain)
             by other false apart =
                 subst (IsFileOf (found files other) (start other)) (sym (others other (λ e. true≢false (sym ((bytes_eq-Decides other file).1 e) ∙ apart)))) (held other (λ none. none))
 
@@ -101,15 +102,15 @@ module _ (start : Folder) (n : ℕ) (before : List Effect) (db : Watched) (old :
   module _ (name file : List ℕ) (new : Option Folder) (others : WhereTold (IsSameBut file) old new) where
     -- the file was written
     pub save-done : SavedMore → (columns : List Column) (rel : Relation) (bytes : List ℕ) (done : Unit {0}) → option_map (λ (k : What × List Column). k.1) (known_of db.names name) ≡ Some columns → rows_of db.names name ≡ Some rel
-        → IsVersionTwo bytes columns rel (length rel) → HasFile new file (Some bytes) → StepEnds start n before (Ok (saved name file)) db new [] (Ok done)
-    save-done law columns rel bytes done c r version has =
+        → IsPlainFile bytes columns rel → HasFile new file (Some bytes) → StepEnds start n before (Ok (saved name file)) db new [] (Ok done)
+    save-done law columns rel bytes done c r plain has =
         let (h, is, same_columns, same_rows) = held_of db.names name columns rel c r in (
           saved name file,
           refl,
           record {
             files = kept_as file h ∷ state.files;
             held_files = written_files start state.files name file old new others state.held_files h bytes has
-                (subst (λ cs. IsVersionTwo bytes cs h.rows (length h.rows)) (sym same_columns) (subst (λ rs. IsVersionTwo bytes columns rs (length rs)) (sym same_rows) version));
+                (subst (λ cs. IsPlainFile bytes cs h.rows) (sym same_columns) (subst (λ rs. IsPlainFile bytes columns rs) (sym same_rows) plain));
             running = subst (λ o. IsRunning db (with_file file o state.files) (before ++ saved name file ∷ [])) is
                 (saved_running db state.files name file before state.running (law db.names state.files name file before state.running.world));
           },
@@ -140,7 +141,7 @@ under start folder contents files sizes file whole held within =
     at : (o : Option (Held Relation)) → found files file ≡ o → (p : Option (Held ℕ)) → found sizes file ≡ p → AreBoth (option_map (made_of length) o) p
         → (s : Option (List ℕ)) → IsFileOf o s (folder file) → (c : Option Content) → contents file ≡ c → IsHeld s c → IsUnder files sizes contents folder file
     at (Some h) is None none both s kept c content holds = absurd both
-    at (Some h) is (Some m) size both s (bytes, now, version) c content holds = was_saved h is m size bytes now version
+    at (Some h) is (Some m) size both s (bytes, now, plain) c content holds = was_saved h is m size bytes now plain.version
     at None is (Some m) size both s kept c content holds = absurd both
     at None is None none both None kept None content holds = was_absent none kept content
     at None is None none both None kept (Some c) content holds = absurd holds

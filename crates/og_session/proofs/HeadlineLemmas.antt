@@ -1,11 +1,12 @@
 -- The clauses of the headline, from how the run ends.
-use Rattle.std.proofs.Common.{◌≡◌, ◌++◌, ◌⊎◌, ◌≤◌, inl, inr, ℕ, Bool, true, false, List, [], ◌∷◌, get_or, Some, OnOk, Result, Ok, Err, refl, sym, ap, ◌∙◌, subst, arith}
+use Rattle.std.proofs.Common.{◌≡◌, ◌++◌, ◌+◌, ◌⊎◌, ◌≤◌, inl, inr, ℕ, Bool, true, false, List, [], ◌∷◌, get_or, Some, OnOk, Result, Ok, Err, refl, sym, ap, ◌∙◌, subst, arith}
 use Rattle.std.specs.List.{Contains}
 use Rattle.std.specs.Io.KnownBytes.{Appends}
 use Rattle.std.proofs.lemmas.List.{append-nil, append_assoc}
 use Rattle.og_base.specs.Told.{IsPrefix, Rose}
 use Rattle.og_base.proofs.SetLemmas.{Contains-cons_cases}
 use Rattle.og_io.specs.Folders.{Folder}
+use Rattle.og_io.specs.Sources.{TakesAtMost, max_part}
 use Rattle.og_db.specs.Effects.{Effect}
 use Rattle.og_faults.specs.Counts.{IsAbsenceCount, IsFaultCount, is_file_fault, is_read_fault, is_write_fault}
 use Rattle.og_faults.specs.Faults.{fault_line, fault_status, status_of}
@@ -14,8 +15,10 @@ use Rattle.og_faults.specs.declared.fault.Fault.{Fault}
 use Rattle.og_faults.specs.declared.fault.Fault.TheVariants as faults
 use Rattle.og_faults.specs.declared.stop.Stop.{Stop}
 use Rattle.og_faults.specs.declared.stop.Stop.TheVariants as stops
-use Rattle.og_session.specs.Ends.{Ends, EndsWith, IsEndOf, IsWhole}
-use Rattle.og_session.specs.Headline.{AreTold, AreUnfailed, Call, HasCause, HasGrown, HasState, HasStatus, HasStop, Headline, IsAsDefined, IsCause, IsComplete, IsCut, IsDefined, IsOneOf, IsOutput, IsStateOf, IsStop, IsStopped, IsTold, next_piece}
+use Rattle.og_script.specs.Scripts.{max_source}
+use Rattle.og_session.specs.Ends.{Ends, EndsWith, IsEndOf, IsWhole, RunAsks}
+use Rattle.og_session.specs.Asked.{asked, count_after}
+use Rattle.og_session.specs.Headline.{AreTold, AreUnfailed, Call, HasCause, HasGrown, HasReads, HasState, HasStatus, HasStop, Headline, IsAsDefined, IsCause, IsComplete, IsCounted, IsCut, IsDefined, IsOneOf, IsOutput, IsStateOf, IsStop, IsStopped, IsTold, next_piece}
 use Rattle.og_session.specs.Output.{piece_of, output_from}
 use Rattle.og_session.specs.Runs.{Run, IsDefinedRun, IsRun, output}
 use Rattle.og_session.proofs.EndLemmas.{unmissed}
@@ -65,6 +68,22 @@ fault_small (faults.NoFile n file) = omega arith
 fault_small (faults.Header n) = omega arith
 fault_small (faults.Record n number) = omega arith
 fault_small (faults.RowCount n said found) = omega arith
+
+-- no fault has the status of a run without one
+fault_some : (f : Fault) → fault_status f ≡ 0 → ⊥
+fault_some faults.Words z = omega (arith, z)
+fault_some faults.SourceTooLong z = omega (arith, z)
+fault_some (faults.BadByte n) z = omega (arith, z)
+fault_some (faults.OpenText n) z = omega (arith, z)
+fault_some (faults.NumberRange n) z = omega (arith, z)
+fault_some (faults.Syntax n) z = omega (arith, z)
+fault_some (faults.TooDeep n) z = omega (arith, z)
+fault_some (faults.Literal n) z = omega (arith, z)
+fault_some (faults.Check n refusal) z = omega (arith, z)
+fault_some (faults.NoFile n file) z = omega (arith, z)
+fault_some (faults.Header n) z = omega (arith, z)
+fault_some (faults.Record n number) z = omega (arith, z)
+fault_some (faults.RowCount n said found) z = omega (arith, z)
 
 -- and each has one of four
 fault_answer : (fault : Fault) → Contains (0 ∷ 2 ∷ 3 ∷ 4 ∷ 5 ∷ 6 ∷ 7 ∷ 8 ∷ 9 ∷ []) (fault_status fault)
@@ -246,22 +265,7 @@ module _ (call : Call) (end : Result (Unit {0}) Stop) (is : call.status ≡ stat
     where
       by : (r : Result (Unit {0}) Stop) → call.status ≡ status_of r → OnOk r P → call.status ≡ 0 → P
       by (Ok done) e h z = h
-      by (Err (stops.Fault fault)) e h z = absurd (some fault (sym e ∙ z))
-        where
-          some : (f : Fault) → fault_status f ≡ 0 → ⊥
-          some faults.Words z = omega (arith, z)
-          some faults.SourceTooLong z = omega (arith, z)
-          some (faults.BadByte n) z = omega (arith, z)
-          some (faults.OpenText n) z = omega (arith, z)
-          some (faults.NumberRange n) z = omega (arith, z)
-          some (faults.Syntax n) z = omega (arith, z)
-          some (faults.TooDeep n) z = omega (arith, z)
-          some (faults.Literal n) z = omega (arith, z)
-          some (faults.Check n refusal) z = omega (arith, z)
-          some (faults.NoFile n file) z = omega (arith, z)
-          some (faults.Header n) z = omega (arith, z)
-          some (faults.Record n number) z = omega (arith, z)
-          some (faults.RowCount n said found) z = omega (arith, z)
+      by (Err (stops.Fault fault)) e h z = absurd (fault_some fault (sym e ∙ z))
       by (Err stops.ReadFault) e h z = absurd (omega (arith, e, z))
       by (Err stops.FileFault) e h z = absurd (omega (arith, e, z))
       by (Err stops.WriteFault) e h z = absurd (omega (arith, e, z))
@@ -292,7 +296,10 @@ module _ (call : Call) (end : Result (Unit {0}) Stop) (is : call.status ≡ stat
       (files : IsFaultCount (is_file_fault end) call.file_faults call.file_faults_after)
       (writes : IsFaultCount (is_write_fault end) call.write_faults call.write_faults_after)
       (absences : IsAbsenceCount end call.absences call.absences_after)
-      (grown : HasGrown call.written call.written_after) where
+      (grown : HasGrown call.written call.written_after)
+      (asks : (source : List ℕ) (start : Folder) (run : Run) → IsTold call source → call.folder ≡ Some start → IsDefinedRun call.words source start run
+      → RunAsks run start call.db call.folder_after call.file_calls call.file_calls_after end)
+      (taken : TakesAtMost (max_source + max_part) call.left call.left_after) where
     -- how the call ended, by its one defined run
     at : (source : List ℕ) (start : Folder) → AreTold call source start → (run : Run) → IsDefined call source start run
         → (text : List ℕ) × Appends call.written call.written_after text × Ends run start call.db call.folder_after text end
@@ -369,6 +376,19 @@ module _ (call : Call) (end : Result (Unit {0}) Stop) (is : call.status ≡ stat
       absences = unmissed end call.absences call.absences_after absences;
     }
 
+    has_reads : HasReads call
+    has_reads = record { source = taken; files = λ source start t run defined. by end is (asks source start run t.source t.files defined) }
+      where
+        by : {start : Folder} {run : Run} (r : Result (Unit {0}) Stop) → call.status ≡ status_of r → RunAsks run start call.db call.folder_after call.file_calls call.file_calls_after r
+            → (counted : IsCounted run start call.db call.folder_after call.file_calls call.file_calls_after) × (IsStopped call ⊎ (counted.after ≡ []))
+            × (call.status ≡ 0 → call.file_calls_after ≡ count_after call.file_calls (asked run.done))
+        by (Ok done) e h = (h.0, inr h.1, λ z. h.2)
+        by (Err (stops.Fault fault)) e h = (h.0, inr h.1, λ z. absurd (fault_some fault (sym e ∙ z)))
+        by (Err stops.ReadFault) e h = (h, inl (subst (Contains (6 ∷ 7 ∷ 8 ∷ 9 ∷ [])) (sym e) (0, omega arith, refl)), λ z. absurd (omega (arith, e, z)))
+        by (Err stops.FileFault) e h = (h, inl (subst (Contains (6 ∷ 7 ∷ 8 ∷ 9 ∷ [])) (sym e) (1, omega arith, refl)), λ z. absurd (omega (arith, e, z)))
+        by (Err stops.WriteFault) e h = (h, inl (subst (Contains (6 ∷ 7 ∷ 8 ∷ 9 ∷ [])) (sym e) (2, omega arith, refl)), λ z. absurd (omega (arith, e, z)))
+        by (Err stops.NoMemory) e h = (h, inl (subst (Contains (6 ∷ 7 ∷ 8 ∷ 9 ∷ [])) (sym e) (3, omega arith, refl)), λ z. absurd (omega (arith, e, z)))
+
     is_complete : IsComplete call
     is_complete source start t none = by (as_defined source start t)
       where
@@ -378,4 +398,4 @@ module _ (call : Call) (end : Result (Unit {0}) Stop) (is : call.status ≡ stat
 
     -- the headline
     pub headline : Headline call
-    headline = record { status = has_status; output = record { grown = grown; text = is_output }; state = has_state; stop = has_stop; cause = has_cause; complete = is_complete }
+    headline = record { status = has_status; output = record { grown = grown; text = is_output }; state = has_state; stop = has_stop; cause = has_cause; reads = has_reads; complete = is_complete }

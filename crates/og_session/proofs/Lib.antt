@@ -1,4 +1,6 @@
 pub mod AnswerLemmas
+pub mod AskLemmas
+pub mod CatalogLemmas
 pub mod ChangeSteps
 pub mod ChangedNames
 pub mod ContentLemmas

@@ -59,20 +59,14 @@ names-within [] (m ∷ b) v = absurd v
 names-within (h ∷ a) [] v = absurd v
 names-within (h ∷ a) (m ∷ b) v = ap₂ (λ r rs. r ∷ rs) (ap₂ (λ n w. n ∷ what_word w ∷ []) v.0.name (ap (λ k. k.0) v.0.what)) (names-within a b v.1)
 
--- the records of the names of a database are those of what is made of it: its sizes, and its rows on a day
-names-made : {V : Type 0} (f : Relation → V) (db : List (Held Relation)) → map (name_record {V = Relation}) db ≡ map (name_record {V = V}) (all_made_of f db)
+-- the records of names are those of what is made of them
+pub names-made : {U V : Type 0} (f : U → V) (db : List (Held U)) → map (name_record {V = U}) db ≡ map (name_record {V = V}) (all_made_of f db)
 names-made f [] = refl
 names-made f (h ∷ hs) = ap (λ rs. name_record h ∷ rs) (names-made f hs)
 
 -- TABLES writes the names of the database
 pub piece-tables : (db files : List (Held Relation)) (before : List Effect) → IsWorldOf db files before → names_text db ≡ piece_of before (on_names t.Tables)
 piece-tables db files before world = ap (λ rs. records ((codes "name" ∷ codes "what" ∷ []) ∷ rs)) (names-made length db ∙ names-within (sizes_at db) _ world.sizes)
-
--- and these are the names of the world of each day
-pub piece-names : (db files : List (Held Relation)) (before : List Effect) (d : ℤ) → IsWorldOf db files before → IsRefDay d → names_text (world_of_day d before).names ≡ piece_of before (on_names t.Tables)
-piece-names db files before d world is =
-    sym (ap names_text (world.names d is)) ∙ sym (ap (λ rs. records ((codes "name" ∷ codes "what" ∷ []) ∷ rs)) (names-made (λ rel. relation_at row_order row_at rel d) db))
-    ∙ piece-tables db files before world
 
 -- any statement but these five writes nothing
 pub others_write_nothing : (before : List Effect) (stmt : Typed) → ((name : List ℕ) (day : ℤ) → ¬ (stmt ≡ t.PrintName name day)) → ((query : Query) (day : ℤ) → ¬ (stmt ≡ t.PrintQuery query day))

@@ -88,7 +88,18 @@ abbrev pub effect_of : Contents → List Effect → Typed → Result Effect File
 effect_of start before (t.Save name file) = Ok (saved name file)
 effect_of start before (t.OpenFile name file) = opening name file (found (sizes_after before).files file) (start file)
 effect_of start before (t.ImportFile name file) = importing name (columns_after before name) file (found (sizes_after before).files file) (start file)
-effect_of start before stmt = Ok (on_names stmt)
+effect_of start before (t.Create name columns) = Ok (on_names (t.Create name columns))
+effect_of start before (t.Insert name rows) = Ok (on_names (t.Insert name rows))
+effect_of start before (t.Delete name cond) = Ok (on_names (t.Delete name cond))
+effect_of start before (t.Update name sets cond) = Ok (on_names (t.Update name sets cond))
+effect_of start before (t.Drop name) = Ok (on_names (t.Drop name))
+effect_of start before t.Tables = Ok (on_names t.Tables)
+effect_of start before (t.Keep name query) = Ok (on_names (t.Keep name query))
+effect_of start before (t.PrintName name day) = Ok (on_names (t.PrintName name day))
+effect_of start before (t.PrintQuery query day) = Ok (on_names (t.PrintQuery query day))
+effect_of start before (t.Explain query) = Ok (on_names (t.Explain query))
+effect_of start before (t.Valid name day) = Ok (on_names (t.Valid name day))
+effect_of start before (t.Live name query) = Ok (on_names (t.Live name query))
 
 -- of a statement that passed its checks
 abbrev pub taken : Result Effect FileFault → Result Effect Refused

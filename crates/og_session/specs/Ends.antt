@@ -14,7 +14,8 @@ use Rattle.og_faults.specs.declared.fault.Fault.{Fault}
 use Rattle.og_faults.specs.declared.stop.Stop.{Stop}
 use Rattle.og_faults.specs.declared.stop.Stop.TheVariants as stops
 use Rattle.og_script.specs.Scripts.{IsScriptFault}
-use Rattle.og_session.specs.Headline.{IsCutShort, IsCutAtPiece, IsCutAtFile, HoldFiles, IsStateBut, IsStateOf, no_name}
+use Rattle.og_session.specs.Asked.{asked, count_after}
+use Rattle.og_session.specs.Headline.{IsCounted, IsCutShort, IsCutAtPiece, IsCutAtFile, HoldFiles, IsStateBut, IsStateOf, no_name}
 use Rattle.og_session.specs.Names.{Watched, IsRunning}
 use Rattle.og_session.specs.Output.{piece_of, output_from}
 use Rattle.og_session.specs.Runs.{Run, IsNoCommand, IsRun, output}
@@ -141,3 +142,11 @@ Ends run start db folder text (Err stops.ReadFault) = text ≡ []
 Ends run start db folder text (Err stops.FileFault) = IsCutAtFile run start db folder text
 Ends run start db folder text (Err stops.WriteFault) = IsCutAtPiece run start db folder text
 Ends run start db folder text (Err stops.NoMemory) = IsCutShort run start db folder text
+
+-- ---- the calls of the files
+
+-- how often a run asked the files, over its defined run: for all statements, unless it was stopped, and then for some first ones
+abbrev pub RunAsks : Run → Folder → List (Held Relation) → Option Folder → ℕ → ℕ → Result (Unit {0}) Stop → Type 0
+RunAsks run start db folder old now (Ok done) = (counted : IsCounted run start db folder old now) × (counted.after ≡ []) × (now ≡ count_after old (asked run.done))
+RunAsks run start db folder old now (Err (stops.Fault fault)) = (counted : IsCounted run start db folder old now) × (counted.after ≡ [])
+RunAsks run start db folder old now (Err _) = IsCounted run start db folder old now

@@ -1,15 +1,17 @@
--- The six clauses of the headline.
-use Rattle.std.specs.Prelude.{◌≡◌, ◌<◌, ◌≤◌, ◌⊎◌, ◌++◌, ⊤, ℕ, List, [], ◌∷◌, Option, Some, None, Contains, length}
+-- The seven clauses of the headline.
+use Rattle.std.specs.Prelude.{◌≡◌, ◌<◌, ◌≤◌, ◌⊎◌, ◌++◌, ◌+◌, ⊤, ℕ, List, [], ◌∷◌, Option, Some, None, Contains}
 use Rattle.std.specs.Io.KnownBytes.{Appends}
 use Rattle.og_base.specs.Told.{Rose, IsPrefix}
 use Rattle.og_io.specs.Folders.{Folder}
-use Rattle.og_file.specs.SavedFile.{IsVersionTwo}
+use Rattle.og_io.specs.Sources.{TakesAtMost, max_part}
+use Rattle.og_file.specs.PlainFiles.{IsPlainFile}
 use Rattle.og_db.specs.Database.{Relation}
 use Rattle.og_db.specs.Effects.{Effect, on_names, saved}
 use Rattle.og_db.specs.Held.{Held, found}
 use Rattle.og_db.specs.Runs.{IsWorldOf, stored}
 use Rattle.og_faults.specs.Lines.{no_file_line}
-use Rattle.og_script.specs.Scripts.{IsScriptFault}
+use Rattle.og_script.specs.Scripts.{IsScriptFault, max_source}
+use Rattle.og_session.specs.Asked.{AreAsked, asked, count_after}
 use Rattle.og_session.specs.Output.{piece_of, output_from}
 use Rattle.og_session.specs.Runs.{Run, IsRun, IsNoCommand, IsDefinedRun, output}
 
@@ -32,6 +34,8 @@ pub record Call : Type 0 where
   pub file_faults_after : ℕ
   pub absences : ℕ
   pub absences_after : ℕ
+  pub file_calls : ℕ
+  pub file_calls_after : ℕ
   pub db : List (Held Relation)
   pub status : ℕ
 
@@ -62,9 +66,9 @@ IsAsDefined call source start = (run : Run) × IsDefined call source start run �
 
 -- ---- the state
 
--- what is under a name: a saved file of version 2 of what the run saved last, and else what was there at the start
+-- what is under a name: the plain saved file of what the run saved last, and else what was there at the start
 abbrev pub IsFileOf : Option (Held Relation) → Option (List ℕ) → Option (List ℕ) → Type 0
-IsFileOf (Some held) start now = (bytes : List ℕ) × (now ≡ Some bytes) × IsVersionTwo bytes held.columns held.rows (length held.rows)
+IsFileOf (Some held) start now = (bytes : List ℕ) × (now ≡ Some bytes) × IsPlainFile bytes held.columns held.rows
 IsFileOf None start now = now ≡ start
 
 -- the files are told, and under each name but those excepted is what was saved last, and else what was there at the start
@@ -131,6 +135,17 @@ pub record IsCutAtFile (run : Run) (start : Folder) (db : List (Held Relation)) 
   pub cut : IsCut run text
   pub state : IsStateBut (is_written_by cut.after) start cut.before db folder
   pub at : IsAtFile cut.after run.status
+
+-- ---- the calls of the files
+
+-- some first statements of a run were carried out: the names and the files are as after them, but for the file that the next one writes;
+-- and the files were asked once for each of them that is on files, and perhaps once more
+pub record IsCounted (run : Run) (start : Folder) (db : List (Held Relation)) (folder : Option Folder) (old now : ℕ) : Type 0 where
+  pub before : List Effect
+  pub after : List Effect
+  pub parts : run.done ≡ before ++ after
+  pub state : IsStateBut (is_written_by after) start before db folder
+  pub asked : AreAsked before old now
 
 -- ---- the clauses
 
@@ -203,11 +218,21 @@ pub record AreUnfailed (call : Call) : Type 0 where
 abbrev pub IsComplete : Call → Type 0
 IsComplete call = (source : List ℕ) (start : Folder) → AreTold call source start → AreUnfailed call → (call.status ≡ 9) ⊎ IsAsDefined call source start
 
--- the headline: its six clauses
+-- reading: of a source at most its limit and one part are taken; and the files are asked once for each statement on files that was carried out,
+-- and where the run did not come to its end perhaps once more
+pub record HasReads (call : Call) : Type 0 where
+  pub source : TakesAtMost (max_source + max_part) call.left call.left_after
+  pub files : (source : List ℕ) (start : Folder) → AreTold call source start → (run : Run) → IsDefined call source start run
+      → (counted : IsCounted run start call.db call.folder_after call.file_calls call.file_calls_after)
+      × (IsStopped call ⊎ (counted.after ≡ []))
+      × (call.status ≡ 0 → call.file_calls_after ≡ count_after call.file_calls (asked run.done))
+
+-- the headline: its seven clauses
 pub record Headline (call : Call) : Type 0 where
   pub status : HasStatus call
   pub output : HasOutput call
   pub state : HasState call
   pub stop : HasStop call
   pub cause : HasCause call
+  pub reads : HasReads call
   pub complete : IsComplete call

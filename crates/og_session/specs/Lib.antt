@@ -1,4 +1,5 @@
 pub mod Answers
+pub mod Asked
 pub mod Contents
 pub mod Ended
 pub mod Ends

@@ -7,7 +7,7 @@ use Rattle.og_query.specs.Queries.{Fixed, ordinary_query}
 use Rattle.og_query.specs.declared.typed.Typed.TheVariants as t
 use Rattle.og_plan.specs.PlanOf.{plan_of}
 use Rattle.og_plan.specs.Text.{plan_text}
-use Rattle.og_db.specs.Effects.{Effect, on_names, sizes_after, world_of_day}
+use Rattle.og_db.specs.Effects.{Effect, on_names, saved, reopened, opened, imported, sizes_after, world_of_day}
 use Rattle.og_db.specs.Held.{Held, found}
 use Rattle.og_db.specs.Statements.{named_rows}
 use Rattle.og_output.specs.Records.{layout, names_text, range_records}
@@ -49,7 +49,20 @@ piece_of before (on_names (t.PrintQuery query day)) = layout query.first.schema 
 piece_of before (on_names t.Tables) = names_text (sizes_after before).names
 piece_of before (on_names (t.Explain query)) = plan_text (plan_of query)
 piece_of before (on_names (t.Valid name day)) = range_records (valid_range before name day)
-piece_of before _ = []
+piece_of before (on_names (t.Create name columns)) = []
+piece_of before (on_names (t.Insert name rows)) = []
+piece_of before (on_names (t.Delete name cond)) = []
+piece_of before (on_names (t.Update name sets cond)) = []
+piece_of before (on_names (t.Drop name)) = []
+piece_of before (on_names (t.Keep name query)) = []
+piece_of before (on_names (t.Save name file)) = []
+piece_of before (on_names (t.OpenFile name file)) = []
+piece_of before (on_names (t.ImportFile name file)) = []
+piece_of before (on_names (t.Live name query)) = []
+piece_of before (saved name file) = []
+piece_of before (reopened name file) = []
+piece_of before (opened name columns rows) = []
+piece_of before (imported name rows) = []
 
 -- what statements write, one after the other, after those before them
 abbrev pub output_from : List Effect → List Effect → List ℕ

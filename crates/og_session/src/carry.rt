@@ -1,16 +1,18 @@
 //! Carries out a command, up to its fault's line.
-ghost use Rattle.std.specs.Prelude.{◌≡◌, ◌≤◌, [], ◌∷◌, ℕ, List, Some, OnOk, IfErr, false};
+ghost use Rattle.std.specs.Prelude.{◌≡◌, ◌≤◌, ◌+◌, false, [], ◌∷◌, ℕ, List, Some, OnOk, IfErr};
 ghost use Rattle.std.specs.List.{All};
 ghost use Rattle.std.specs.Io.KnownBytes.{Appends};
 ghost use Rattle.og_par.specs.Limits.{max_workers};
 ghost use Rattle.og_io.specs.Folders.{Folder};
+ghost use Rattle.og_io.specs.Sources.{TakesAtMost, max_part};
 ghost use Rattle.og_db.specs.Runs.{stored};
 ghost use Rattle.og_words.specs.Grammar.{IsCommand};
 ghost use Rattle.og_faults.specs.Counts.{IsAbsenceCount, IsFaultCount, is_file_fault, is_read_fault, is_write_fault};
 ghost use Rattle.og_script.specs.LiveTexts.{IsLiveStmt};
 ghost use Rattle.og_script.specs.Kept.{IsKeptAt};
+ghost use Rattle.og_script.specs.Scripts.{max_source};
 ghost use Rattle.og_session.specs.Contents.{AreContents, Contents};
-ghost use Rattle.og_session.specs.Ends.{EndsUnreported, EndsWith, IsEndOf, RunEnds};
+ghost use Rattle.og_session.specs.Ends.{EndsUnreported, EndsWith, IsEndOf, RunAsks, RunEnds};
 ghost use Rattle.og_session.specs.Headline.{HasGrown};
 ghost use Rattle.og_session.specs.Runs.{IsDefinedRun, IsRun, Run, run_from};
 
@@ -44,7 +46,7 @@ pub fn carry_out<H: Threads + Sync, S: Source, K: Sink, F: Files, G: Gate + Prog
     script: &mut Vec<u8>,
 ) -> Result<(), Stop>
     requires empty { db.old ≡ [] }
-    requires not_ended { S.ended src.old ≡ false }
+    requires not_ended { IsRun words.now → S.ended src.old ≡ false }
     ensures told { (source : List ℕ) (start : Folder) (run : Run) → (IsRun words.now → S.left src.old ≡ Some source) → F.folder files.old ≡ Some start → IsDefinedRun words.now source start run →
         (text : List ℕ) × Appends (K.written out.old) (K.written out.new) text × EndsUnreported run start db.new (F.folder files.new) text result }
     ensures drained { (source : List ℕ) → IsRun words.now → S.left src.old ≡ Some source → OnOk result (S.left src.new ≡ Some []) }
@@ -56,6 +58,9 @@ pub fn carry_out<H: Threads + Sync, S: Source, K: Sink, F: Files, G: Gate + Prog
     ensures writes { IsFaultCount (is_write_fault result) (K.faults out.old) (K.faults out.new) }
     ensures grown { HasGrown (K.written out.old) (K.written out.new) }
     ensures absences { IsAbsenceCount result (F.absences files.old) (F.absences files.new) }
+    ensures asked { (source : List ℕ) (start : Folder) (run : Run) → (IsRun words.now → S.left src.old ≡ Some source) → F.folder files.old ≡ Some start → IsDefinedRun words.now source start run →
+        RunAsks run start db.new (F.folder files.new) (F.calls files.old) (F.calls files.new) result }
+    ensures taken { TakesAtMost (max_source + max_part) (S.left src.old) (S.left src.new) }
     ensures kept { (source : List ℕ) → IsRun words.now → S.left src.old ≡ Some source → IfErr result (IsKeptAt source script.new.items) }
     ensures none_kept { ¬ IsRun words.now → script.new.items ≡ script.old.items }
 {
@@ -90,6 +95,8 @@ fn run_statements<H: Threads + Sync, K: Sink, F: Files, G: Gate + Progress + Syn
     ensures writes { IsFaultCount (is_write_fault result) (K.faults out.old) (K.faults out.new) }
     ensures grown { HasGrown (K.written out.old) (K.written out.new) }
     ensures absences { IsAbsenceCount result (F.absences files.old) (F.absences files.new) }
+    ensures asked { (start : Folder) (contents : Contents) → F.folder files.old ≡ Some start → AreContents start contents →
+        RunAsks (run_from contents 1 [] stmts) start db.new (F.folder files.new) (F.calls files.old) (F.calls files.new) result }
 {
     no_statements();
     let mut names = Names::new(alloc);
@@ -120,6 +127,8 @@ fn run_all<H: Threads + Sync, K: Sink, F: Files, G: Gate + Progress + Sync>(
     ensures writes { IsFaultCount (is_write_fault result) (K.faults out.old) (K.faults out.new) }
     ensures grown { HasGrown (K.written out.old) (K.written out.new) }
     ensures absences { IsAbsenceCount result (F.absences files.old) (F.absences files.new) }
+    ensures asked { (start : Folder) (contents : Contents) → F.folder files.old ≡ Some start → AreContents start contents →
+        RunAsks (run_from contents 1 [] stmts) start (stored names.new.names) (F.folder files.new) (F.calls files.old) (F.calls files.new) result }
 {
     no_statements();
     let mut left = turned(alloc, stmts)?;

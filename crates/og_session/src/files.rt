@@ -11,6 +11,7 @@ ghost use Rattle.og_db.specs.Effects.{Effect, imported, saved};
 ghost use Rattle.og_db.specs.Held.{known_of};
 ghost use Rattle.og_db.specs.Runs.{stored};
 ghost use Rattle.og_faults.specs.Counts.{IsAbsenceCount, IsFaultCount, is_file_fault};
+ghost use Rattle.og_session.specs.Asked.{AsksOnce};
 ghost use Rattle.og_session.specs.Contents.{AreContents, Contents, effect_of, taken};
 ghost use Rattle.og_session.specs.Ends.{IsFileStop, IsHeldState, StepEnds};
 ghost use Rattle.og_session.specs.Names.{IsDone};
@@ -50,6 +51,7 @@ pub fn save<F: Files, P: Progress>(
     ensures stops { IsFileStop result }
     ensures files { IsFaultCount (is_file_fault result) (F.faults files.old) (F.faults files.new) }
     ensures absences { IsAbsenceCount result (F.absences files.old) (F.absences files.new) }
+    ensures asked { AsksOnce result (F.calls files.old) (F.calls files.new) }
 {
     one_file_more();
     names.rows_fit();
@@ -80,6 +82,7 @@ pub fn open<F: Files, P: Progress>(
     ensures stops { IsFileStop result }
     ensures files { IsFaultCount (is_file_fault result) (F.faults files.old) (F.faults files.new) }
     ensures absences { IsAbsenceCount result (F.absences files.old) (F.absences files.new) }
+    ensures asked { AsksOnce result (F.calls files.old) (F.calls files.new) }
 {
     one_file_more();
     one_saved_file();
@@ -118,6 +121,7 @@ pub fn import<H: Threads + Sync, F: Files, G: Gate + Progress + Sync>(
     ensures stops { IsFileStop result }
     ensures files { IsFaultCount (is_file_fault result) (F.faults files.old) (F.faults files.new) }
     ensures absences { IsAbsenceCount result (F.absences files.old) (F.absences files.new) }
+    ensures asked { AsksOnce result (F.calls files.old) (F.calls files.new) }
 {
     one_file_more();
     known_names();

@@ -8,10 +8,9 @@ ghost use Rattle.og_words.specs.Grammar.{IsCommand};
 ghost use Rattle.og_words.specs.declared.command.Command as commands;
 ghost use Rattle.og_io.specs.Folders.{Folder};
 ghost use Rattle.og_query.specs.declared.typed.Typed.TheVariants as t;
-ghost use Rattle.og_db.specs.Database.{Relation};
 ghost use Rattle.og_db.specs.Effects.{Effect, on_names, world_of_day};
-ghost use Rattle.og_db.specs.Held.{Held};
-ghost use Rattle.og_db.specs.Runs.{IsWorldOf};
+ghost use Rattle.og_db.specs.Held.{known_of};
+ghost use Rattle.og_db.specs.Runs.{known_after};
 ghost use Rattle.og_faults.specs.Lines.{words_line};
 ghost use Rattle.og_script.specs.Scripts.{IsScript, IsScriptFault, IsScriptOf};
 ghost use Rattle.og_session.specs.Contents.{AreContents, Contents};
@@ -68,10 +67,12 @@ pub fn valid_ranges()
     ensures one { (before : List Effect) (name : List ℕ) (day : ℤ) (range : Range) → IsRefDay day → IsLongest (λ d. printed before name d ≡ printed before name day) day range → range ≡ valid_range before name day }
 {}
 
-/// On each day the world has the names that TABLES writes, each what TABLES says, and no others: which names there
-/// are does not depend on the day. It has nothing to do: it is called for this contract.
-pub fn names_of_each_day()
-    ensures { (names files : List (Held Relation)) (before : List Effect) (day : ℤ) → IsWorldOf names files before → IsRefDay day → names_text (world_of_day day before).names ≡ piece_of before (on_names t.Tables) }
+/// The catalog is the same on all days: after any statements the world of each day has the names that TABLES
+/// writes, each what TABLES says, and each with the columns that checks know. It has nothing to do: it is called
+/// for this contract.
+pub fn one_catalog()
+    ensures tables { (before : List Effect) (day : ℤ) → names_text (world_of_day day before).names ≡ piece_of before (on_names t.Tables) }
+    ensures known { (before : List Effect) (day : ℤ) (name : List ℕ) → known_of (world_of_day day before).names name ≡ known_after before name }
 {}
 
 /// Any files hold something.

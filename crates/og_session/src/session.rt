@@ -1,16 +1,18 @@
 //! The top call: the words, the source and the files in, the output, the files, the database and the exit
 //! status out.
-ghost use Rattle.std.specs.Prelude.{◌≡◌, [], ◌∷◌, ℕ, List, Some, OnOk, IfErr, false};
+ghost use Rattle.std.specs.Prelude.{◌≡◌, ◌+◌, false, [], ◌∷◌, ℕ, List, Some, OnOk, IfErr};
 ghost use Rattle.std.specs.Io.KnownBytes.{Appends};
 ghost use Rattle.og_io.specs.Folders.{Folder};
+ghost use Rattle.og_io.specs.Sources.{TakesAtMost, max_part};
 ghost use Rattle.og_faults.specs.Counts.{IsAbsenceCount, IsFaultCount, is_file_fault, is_read_fault, is_unput, is_write_fault};
 ghost use Rattle.og_faults.specs.Faults.{status_of};
 ghost use Rattle.og_faults.specs.declared.fault.Fault.{Fault};
 ghost use Rattle.og_faults.specs.declared.stop.Stop.{Stop};
 ghost use Rattle.og_output.specs.Puts.{IsPut};
 ghost use Rattle.og_script.specs.Kept.{IsKeptAt};
+ghost use Rattle.og_script.specs.Scripts.{max_source};
 ghost use Rattle.og_session.specs.Ended.{IsEndedBy};
-ghost use Rattle.og_session.specs.Ends.{Ends, EndsWith, IsEndOf};
+ghost use Rattle.og_session.specs.Ends.{Ends, EndsWith, IsEndOf, RunAsks};
 ghost use Rattle.og_session.specs.Headline.{HasGrown, Headline};
 ghost use Rattle.og_session.specs.Runs.{IsDefinedRun, IsRun, Run};
 
@@ -57,7 +59,7 @@ pub fn run<H: Threads + Sync, S: Source, K: Sink, F: Files>(
     db: &mut Db,
 ) -> u8
     requires empty { db.old ≡ [] }
-    requires not_ended { S.ended src.old ≡ false }
+    requires not_ended { IsRun words.now → S.ended src.old ≡ false }
     ensures headline { Headline (record {
       words = words.now;
       left = S.left src.old;
@@ -74,6 +76,8 @@ pub fn run<H: Threads + Sync, S: Source, K: Sink, F: Files>(
       file_faults_after = F.faults files.new;
       absences = F.absences files.old;
       absences_after = F.absences files.new;
+      file_calls = F.calls files.old;
+      file_calls_after = F.calls files.new;
       db = db.new;
       status = result;
     }) }
@@ -94,7 +98,7 @@ pub fn run_gated<H: Threads + Sync, S: Source, K: Sink, F: Files, G: Gate + Sync
     gate: &G,
 ) -> u8
     requires empty { db.old ≡ [] }
-    requires not_ended { S.ended src.old ≡ false }
+    requires not_ended { IsRun words.now → S.ended src.old ≡ false }
     ensures headline { Headline (record {
       words = words.now;
       left = S.left src.old;
@@ -111,6 +115,8 @@ pub fn run_gated<H: Threads + Sync, S: Source, K: Sink, F: Files, G: Gate + Sync
       file_faults_after = F.faults files.new;
       absences = F.absences files.old;
       absences_after = F.absences files.new;
+      file_calls = F.calls files.old;
+      file_calls_after = F.calls files.new;
       db = db.new;
       status = result;
     }) }
@@ -132,7 +138,7 @@ pub fn run_located<H: Threads + Sync, S: Source, K: Sink, F: Files, G: Gate + Pr
     gate: &G,
 ) -> Ended
     requires empty { db.old ≡ [] }
-    requires not_ended { S.ended src.old ≡ false }
+    requires not_ended { IsRun words.now → S.ended src.old ≡ false }
     ensures headline { Headline (record {
       words = words.now;
       left = S.left src.old;
@@ -149,6 +155,8 @@ pub fn run_located<H: Threads + Sync, S: Source, K: Sink, F: Files, G: Gate + Pr
       file_faults_after = F.faults files.new;
       absences = F.absences files.old;
       absences_after = F.absences files.new;
+      file_calls = F.calls files.old;
+      file_calls_after = F.calls files.new;
       db = db.new;
       status = result.status;
     }) }
@@ -182,7 +190,7 @@ fn run_to_end<H: Threads + Sync, S: Source, K: Sink, F: Files, G: Gate + Progres
     script: &mut Vec<u8>,
 ) -> Result<(), Stop>
     requires empty { db.old ≡ [] }
-    requires not_ended { S.ended src.old ≡ false }
+    requires not_ended { IsRun words.now → S.ended src.old ≡ false }
     ensures told { (source : List ℕ) (start : Folder) (run : Run) → (IsRun words.now → S.left src.old ≡ Some source) → F.folder files.old ≡ Some start → IsDefinedRun words.now source start run →
         (text : List ℕ) × Appends (K.written out.old) (K.written out.new) text × Ends run start db.new (F.folder files.new) text result }
     ensures drained { (source : List ℕ) → IsRun words.now → S.left src.old ≡ Some source → OnOk result (S.left src.new ≡ Some []) }
@@ -194,6 +202,9 @@ fn run_to_end<H: Threads + Sync, S: Source, K: Sink, F: Files, G: Gate + Progres
     ensures writes { IsFaultCount (is_write_fault result) (K.faults out.old) (K.faults out.new) }
     ensures grown { HasGrown (K.written out.old) (K.written out.new) }
     ensures absences { IsAbsenceCount result (F.absences files.old) (F.absences files.new) }
+    ensures asked { (source : List ℕ) (start : Folder) (run : Run) → (IsRun words.now → S.left src.old ≡ Some source) → F.folder files.old ≡ Some start → IsDefinedRun words.now source start run →
+        RunAsks run start db.new (F.folder files.new) (F.calls files.old) (F.calls files.new) result }
+    ensures taken { TakesAtMost (max_source + max_part) (S.left src.old) (S.left src.new) }
     ensures kept { (source : List ℕ) → IsRun words.now → S.left src.old ≡ Some source → IfErr result (IsKeptAt source script.new.items) }
     ensures none_kept { ¬ IsRun words.now → script.new.items ≡ script.old.items }
 {

@@ -10,6 +10,7 @@ ghost use Rattle.og_db.specs.Held.{known_of};
 ghost use Rattle.og_db.specs.Statements.{is_of_names};
 ghost use Rattle.og_faults.specs.Counts.{IsAbsenceCount, IsFaultCount, is_file_fault, is_write_fault};
 ghost use Rattle.og_script.specs.LiveTexts.{IsLiveStmt};
+ghost use Rattle.og_session.specs.Asked.{StepAsks};
 ghost use Rattle.og_session.specs.Contents.{AreContents, Contents, effect_of, outcome, taken};
 ghost use Rattle.og_session.specs.Ends.{IsHeldState, IsPutStop, IsStepStop, StepEnds};
 ghost use Rattle.og_session.specs.Headline.{HasGrown};
@@ -57,6 +58,8 @@ pub fn step<H: Threads + Sync, K: Sink, F: Files, G: Gate + Progress + Sync>(
     ensures writes { IsFaultCount (is_write_fault result) (K.faults out.old) (K.faults out.new) }
     ensures grown { HasGrown (K.written out.old) (K.written out.new) }
     ensures absences { IsAbsenceCount result (F.absences files.old) (F.absences files.new) }
+    ensures asked { (stmt : Stmt) (rest : List Stmt) → reverse left.old.items ≡ stmt ∷ rest → (start : Folder) (contents : Contents) → AreContents start contents →
+        (before : List Effect) → IsHeldState start before names.old (F.folder files.old) → StepAsks (outcome contents before stmt) result (F.calls files.old) (F.calls files.new) }
 {
     let Some(stmt) = left.pop() else {
         unreachable!();
@@ -86,6 +89,8 @@ fn carried<H: Threads + Sync, K: Sink, F: Files, G: Gate + Progress + Sync>(
     ensures writes { IsFaultCount (is_write_fault result) (K.faults out.old) (K.faults out.new) }
     ensures grown { HasGrown (K.written out.old) (K.written out.new) }
     ensures absences { IsAbsenceCount result (F.absences files.old) (F.absences files.new) }
+    ensures asked { (start : Folder) (contents : Contents) → AreContents start contents → (before : List Effect) → IsHeldState start before names.old (F.folder files.old) →
+        StepAsks (outcome contents before stmt) result (F.calls files.old) (F.calls files.new) }
 {
     known_names();
     checked_fits();
@@ -118,6 +123,7 @@ fn done<H: Threads + Sync, K: Sink, F: Files, G: Gate + Progress + Sync>(
     ensures writes { IsFaultCount (is_write_fault result) (K.faults out.old) (K.faults out.new) }
     ensures grown { HasGrown (K.written out.old) (K.written out.new) }
     ensures absences { IsAbsenceCount result (F.absences files.old) (F.absences files.new) }
+    ensures asked { (contents : Contents) (before : List Effect) → StepAsks (taken (effect_of contents before typed)) result (F.calls files.old) (F.calls files.new) }
 {
     match typed {
         Typed::Save { name, file } => save(alloc, &name, &file, files, names, gate),

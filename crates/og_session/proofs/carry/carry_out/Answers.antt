@@ -3,8 +3,9 @@ use Rattle.std.proofs.KnownBytes.{Appends-nil}
 use Rattle.std.proofs.lemmas.Result.{err_from_is_err_and}
 use Rattle.og_words.specs.declared.command.Command.TheVariants as commands
 use Rattle.og_script.specs.Scripts.{IsScriptOf}
-use Rattle.og_session.specs.Ends.{EndsUnreported}
+use Rattle.og_session.specs.Ends.{EndsUnreported, RunAsks}
 use Rattle.og_session.specs.Runs.{run_from}
+use Rattle.og_session.proofs.AskLemmas.{none_taken, script-asks, words-ask}
 use Rattle.og_session.proofs.EndLemmas.{end_late, end_script, end_words, late_read, run_command, run_end, run_words, script_end, words_end}
 use Rattle.og_script.proofs.KeptLemmas.{kept_whole}
 use Rattle.og_session.proofs.EndedLemmas.{kept_words}
@@ -115,3 +116,43 @@ returns-in_err-command-clause-grown g c = grown_none _
 
 pub returns-in_err-stmts-clause-grown : goal.returns-in_err-stmts-clause-grown
 returns-in_err-stmts-clause-grown g c = grown_none _
+
+-- ---- how often the files were asked
+
+pub returns-in_err-command-clause-asked : goal.returns-in_err-command-clause-asked
+returns-in_err-command-clause-asked g c source start run told files defined =
+    let p = err_from_is_err_and c.from_residual.result c.from_residual.ensures.1 in
+    let folder = g.F.Files.folder c.args.files.now in
+    let state = state_at_start start c.args.db.now folder c.no_statements.ensures c.requires.empty files in
+    rw (p.1, p.2) (words-ask run start c.args.db.now folder _ state c.in_err-command.field-0.0
+    (λ e. c.defined_runs.ensures.no_command c.args.words.now source start run (c.in_err-command.ensures.no_command (ap Err e)) defined))
+
+pub returns-in_err-stmts-clause-asked : goal.returns-in_err-stmts-clause-asked
+returns-in_err-stmts-clause-asked g c source start run told files defined =
+    let p = err_from_is_err_and c.from_residual-in_err-stmts.result c.from_residual-in_err-stmts.ensures.1 in
+    let words = c.args.words.now in
+    let command = c.in_ok-command.command in
+    let is = c.in_ok-command.ensures.command in
+    let folder = g.F.Files.folder c.args.files.now in
+    let state = state_at_start start c.args.db.now folder c.no_statements.ensures c.requires.empty files in
+    rw (p.1, p.2) (script-asks run start c.args.db.now folder _ state command source c.in_err-stmts.field-0.0 c.in_err-stmts.ensures.stops
+    (c.in_err-stmts.ensures.stopped source (λ r. told (run_words words command is r)))
+    (λ line r fault. c.defined_runs.ensures.no_script words source line start run (run_words words command is r) fault defined))
+
+pub returns-clause-asked : goal.returns-clause-asked
+returns-clause-asked g c source start run told files defined =
+    let words = c.args.words.now in
+    let command = c.in_ok-command.command in
+    let is = c.in_ok-command.ensures.command in
+    let stmts = c.in_ok-stmts.stmts in
+    let found = c.defined_runs.ensures.script words source start run command stmts is (c.in_ok-stmts.ensures.script source (λ r. told (run_words words command is r))) defined in
+    subst (λ r. RunAsks r start c.run_statements.new.db (g.F.Files.folder c.run_statements.new.files) (g.F.Files.calls c.args.files.now) (g.F.Files.calls c.run_statements.new.files) c.run_statements.result) (sym found.2)
+        (c.run_statements.ensures.asked start found.0 files found.1)
+
+pub script_of-requires-clause-not_ended : goal.script_of-requires-clause-not_ended
+script_of-requires-clause-not_ended g c r = c.requires.not_ended (run_words c.args.words.now c.in_ok-command.command c.in_ok-command.ensures.command r)
+
+-- ---- what was taken of the source
+
+pub returns-in_err-command-clause-taken : goal.returns-in_err-command-clause-taken
+returns-in_err-command-clause-taken g c = none_taken _ _

@@ -11,7 +11,7 @@ use Rattle.og_session.proofs.carry.run_all.Given as goal
 abbrev pub invariant-stmts : goal.invariant-stmts
 invariant-stmts g l = record {
   at : (start : Folder) (contents : Contents) → g.F.Files.folder l.fn.files ≡ Some start → AreContents start contents
-      → IsAt start contents l.fn.stmts l.place l.names (g.F.Files.folder l.files) (g.K.Sink.written l.fn.out) (g.K.Sink.written l.out);
+      → IsAt start contents l.fn.stmts l.place l.names (g.F.Files.folder l.files) (g.K.Sink.written l.fn.out) (g.K.Sink.written l.out) (g.F.Files.calls l.fn.files) (g.F.Files.calls l.files);
   left : reverse l.left.items ≡ drop l.place l.fn.stmts;
   live : AllByRecursion IsLiveStmt (drop l.place l.fn.stmts);
   files : g.F.Files.faults l.files ≡ g.F.Files.faults l.fn.files;

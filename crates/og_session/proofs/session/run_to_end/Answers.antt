@@ -2,6 +2,7 @@ use Rattle.std.proofs.Common.{Result, Err, sym, subst}
 use Rattle.og_faults.specs.Faults.{fault_line}
 use Rattle.og_faults.specs.declared.stop.Stop.{Stop}
 use Rattle.og_session.specs.Ends.{Ends, EndsUnreported}
+use Rattle.og_session.proofs.AskLemmas.{counted_of, unsaid-counted}
 use Rattle.og_session.proofs.EndLemmas.{end_unput, reported, unfaulted, unsaid}
 use Rattle.og_session.proofs.GrownLemmas.{grown_by_put, grown_more}
 use Rattle.og_session.proofs.EndedLemmas.{kept_put}
@@ -38,3 +39,9 @@ returns-in-Err-clause-grown g c = grown_more _ _ _ c.carry_out-end.ensures.grown
 
 pub returns-clause-grown : goal.returns-clause-grown
 returns-clause-grown g c = grown_more _ _ _ c.carry_out-end.ensures.grown (fault_line c.in-Some.fault.now, c.in_default-put_fault.ensures.put)
+
+pub returns-in-Err-clause-asked : goal.returns-in-Err-clause-asked
+returns-in-Err-clause-asked g c source start run told files defined =
+    let folder = g.F.Files.folder c.carry_out-end.new.files in
+    rw c.from.ensures (unsaid-counted run start c.carry_out-end.new.db folder _ _ c.in-Err.refusal
+    (counted_of run start c.carry_out-end.new.db folder _ _ c.carry_out-end.result (c.carry_out-end.ensures.asked source start run told files defined)))

@@ -1,7 +1,8 @@
-use Rattle.std.proofs.Common.{◌≡◌, ap, sym, subst, Ok, Err}
+use Rattle.std.proofs.Common.{◌≡◌, ap, inl, refl, sym, subst, Ok, Err}
 use Rattle.og_check.specs.Statements.{checked}
 use Rattle.og_db.specs.Held.{known_of}
 use Rattle.og_faults.proofs.CountLemmas.{check_counted}
+use Rattle.og_session.specs.Asked.{StepAsks}
 use Rattle.og_session.specs.Contents.{outcome_of}
 use Rattle.og_session.specs.Ends.{StepEnds}
 use Rattle.og_session.proofs.StopLemmas.{check_stopped}
@@ -40,3 +41,11 @@ returns-in-Err-clause-absences g c = rw c.of_check.ensures (check_counted c.args
 
 pub returns-in-Err-clause-grown : goal.returns-in-Err-clause-grown
 returns-in-Err-clause-grown g c = grown_none _
+
+pub returns-in-Ok-clause-asked : goal.returns-in-Ok-clause-asked
+returns-in-Ok-clause-asked g c start contents holds before state =
+    let good = subst (λ k. checked k c.args.stmt ≡ Ok c.in-Ok.typed) (c.known_names.ensures c.args.names.now.names state.files before state.running.world) c.in-Ok.ensures.typed in
+    subst (λ o. StepAsks o c.done.result (g.F.Files.calls c.args.files.now) (g.F.Files.calls c.done.new.files)) (sym (ap (outcome_of contents before) good)) (c.done.ensures.asked contents before)
+
+pub returns-in-Err-clause-asked : goal.returns-in-Err-clause-asked
+returns-in-Err-clause-asked g c start contents holds before state = inl refl

@@ -1,7 +1,9 @@
-use Rattle.std.proofs.Common.{[], sym, subst}
+use Rattle.std.proofs.Common.{[], None, sym, subst}
 use Rattle.std.proofs.KnownBytes.{Appends-nil}
+use Rattle.og_session.specs.Asked.{StepAsks}
 use Rattle.og_session.specs.Contents.{effect_of, taken}
 use Rattle.og_session.specs.Ends.{StepEnds}
+use Rattle.og_session.proofs.AskLemmas.{import-asks, names-ask, open-asks, save-asks}
 use Rattle.og_session.proofs.StopLemmas.{step_by_put}
 use Rattle.og_session.proofs.StepLemmas.{effect-names, of_names}
 use Rattle.og_session.proofs.GrownLemmas.{grown_none}
@@ -39,3 +41,23 @@ returns-in-OpenFile-clause-grown g c = grown_none _
 
 pub returns-in-ImportFile-clause-grown : goal.returns-in-ImportFile-clause-grown
 returns-in-ImportFile-clause-grown g c = grown_none _
+
+pub returns-in-Save-clause-asked : goal.returns-in-Save-clause-asked
+returns-in-Save-clause-asked g c contents before =
+    subst (λ t. StepAsks (taken (effect_of contents before t)) c.save.result (g.F.Files.calls c.args.files.now) (g.F.Files.calls c.save.new.files)) (sym c.in-Save.is)
+    (save-asks contents before c.in-Save.name c.in-Save.file c.save.result _ _ c.save.ensures.asked)
+
+pub returns-in-OpenFile-clause-asked : goal.returns-in-OpenFile-clause-asked
+returns-in-OpenFile-clause-asked g c contents before =
+    subst (λ t. StepAsks (taken (effect_of contents before t)) c.open.result (g.F.Files.calls c.args.files.now) (g.F.Files.calls c.open.new.files)) (sym c.in-OpenFile.is)
+    (open-asks contents before _ _ c.open.result _ _ c.open.ensures.asked)
+
+pub returns-in-ImportFile-clause-asked : goal.returns-in-ImportFile-clause-asked
+returns-in-ImportFile-clause-asked g c contents before =
+    subst (λ t. StepAsks (taken (effect_of contents before t)) c.import.result (g.F.Files.calls c.args.files.now) (g.F.Files.calls c.import.new.files)) (sym c.in-ImportFile.is)
+    (import-asks contents before _ _ c.import.result _ _ c.import.ensures.asked)
+
+pub returns-in_default-clause-asked : goal.returns-in_default-clause-asked
+returns-in_default-clause-asked g c contents before =
+    let names = of_names c.args.typed c.in_default.not-Save c.in_default.not-OpenFile c.in_default.not-ImportFile in
+    subst (λ o. StepAsks (taken o) c.on_names.result (g.F.Files.calls c.args.files.now) (g.F.Files.calls c.args.files.now)) (sym (effect-names (λ _. None) c.args.number before contents c.args.typed names)) (names-ask c.args.typed c.on_names.result _)

@@ -1,6 +1,7 @@
 use Rattle.std.proofs.Common.{◌++◌, ap, subst, sym, ◌∙◌}
 use Rattle.std.specs.Option.{option_to_list}
 use Rattle.og_script.specs.LiveTexts.{IsLiveStmt}
+use Rattle.og_session.specs.Asked.{StepAsks}
 use Rattle.og_session.specs.Contents.{outcome}
 use Rattle.og_session.specs.Ends.{StepEnds}
 use Rattle.og_script.proofs.TurnLemmas.{reverse-last}
@@ -23,3 +24,8 @@ pub returns-clause-left : goal.returns-clause-left
 returns-clause-left g c stmt rest e =
     let popped = reverse-last c.args.left.now.items c.pop.new.self.items c.in-Some.stmt (c.pop.ensures.items ∙ ap (λ o. c.pop.new.self.items ++ option_to_list o) c.in-Some.is) in
     same_rest (sym popped ∙ e)
+
+pub returns-clause-asked : goal.returns-clause-asked
+returns-clause-asked g c stmt rest e start contents holds before state =
+    let popped = reverse-last c.args.left.now.items c.pop.new.self.items c.in-Some.stmt (c.pop.ensures.items ∙ ap (λ o. c.pop.new.self.items ++ option_to_list o) c.in-Some.is) in
+    subst (λ s. StepAsks (outcome contents before s) c.carried.result (g.F.Files.calls c.args.files.now) (g.F.Files.calls c.carried.new.files)) (same_first (sym popped ∙ e)) (c.carried.ensures.asked start contents holds before state)
