@@ -1,6 +1,5 @@
 -- indexes on bugs (id), patch (comp) and pairs (id); the pairs of changed bugs are made anew
-CREATE INDEX ON bugs (id);
-CREATE INDEX ON patch (comp);
+-- The indexes come after pairs, since a hash join makes all of these sooner than the index of patch does.
 ANALYZE bugs, patch;
 CREATE VIEW ever AS
     SELECT b.id, p.pid,
@@ -8,6 +7,8 @@ CREATE VIEW ever AS
     FROM bugs b JOIN patch p ON b.comp = p.comp
     WHERE b.since < COALESCE(p.until, 'infinity') AND p.since < COALESCE(b.until, 'infinity');
 CREATE UNLOGGED TABLE pairs AS TABLE ever;
+CREATE INDEX ON bugs (id);
+CREATE INDEX ON patch (comp);
 CREATE INDEX ON pairs (id);
 ANALYZE pairs;
 -- each time:
