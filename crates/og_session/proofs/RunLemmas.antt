@@ -168,8 +168,7 @@ module _ (start : Folder) (contents : Contents) where
         by : (s : Stop) → StepAsks todo (Err s) calls_now calls_new → StepEnds start n at.before todo new_held new_folder text (Err s) → RunAsks (run_from contents 1 [] stmts) start db new_folder calls calls_new (Err s)
         by (stops.Fault fault) asks (refusal, bad, is, state, none) =
             subst (λ r. RunAsks r start db new_folder calls calls_new (Err (stops.Fault fault)))
-            (sym (run ∙ ap (after_outcome n at.before (λ effect. run_from contents (suc n) (at.before ++ effect ∷ []) rest)) bad))
-            (
+            (sym (run ∙ ap (after_outcome n at.before (λ effect. run_from contents (suc n) (at.before ++ effect ∷ []) rest)) bad)) (
               record {
                 before = at.before;
                 after = [];
@@ -203,8 +202,7 @@ module _ (start : Folder) (contents : Contents) where
     -- and so often the files were asked
     pub last-counted : RunAsks (run_from contents 1 [] stmts) start (stored held.names) folder calls calls_now (Ok tt)
     last-counted =
-        subst (λ r. RunAsks r start (stored held.names) folder calls calls_now (Ok tt)) (sym all)
-        (
+        subst (λ r. RunAsks r start (stored held.names) folder calls calls_now (Ok tt)) (sym all) (
           record {
             before = at.before;
             after = [];

@@ -147,7 +147,7 @@ returns-clause-asked g c source start run told files defined =
     let stmts = c.in_ok-stmts.stmts in
     let found = c.defined_runs.ensures.script words source start run command stmts is (c.in_ok-stmts.ensures.script source (λ r. told (run_words words command is r))) defined in
     subst (λ r. RunAsks r start c.run_statements.new.db (g.F.Files.folder c.run_statements.new.files) (g.F.Files.calls c.args.files.now) (g.F.Files.calls c.run_statements.new.files) c.run_statements.result) (sym found.2)
-        (c.run_statements.ensures.asked start found.0 files found.1)
+    (c.run_statements.ensures.asked start found.0 files found.1)
 
 pub script_of-requires-clause-not_ended : goal.script_of-requires-clause-not_ended
 script_of-requires-clause-not_ended g c r = c.requires.not_ended (run_words c.args.words.now c.in_ok-command.command c.in_ok-command.ensures.command r)

@@ -14,4 +14,4 @@ returns-clause-ends g c start contents told holds =
 pub returns-clause-asked : goal.returns-clause-asked
 returns-clause-asked g c start contents told holds =
     subst (λ db. RunAsks (run_from contents 1 [] c.args.stmts) start db (g.F.Files.folder c.run_all-end.new.files) (g.F.Files.calls c.args.files.now) (g.F.Files.calls c.run_all-end.new.files) c.run_all-end.result) (sym c.into_stored.ensures)
-        (c.run_all-end.ensures.asked start contents told holds)
+    (c.run_all-end.ensures.asked start contents told holds)
