@@ -12,13 +12,17 @@ pub mod EndLemmas
 pub mod EndedLemmas
 pub mod FileLemmas
 pub mod FollowLemmas
+pub mod FollowedNames
 pub mod GrownLemmas
 pub mod HeadlineLemmas
 pub mod LeftLemmas
 pub mod LiveChecks
+pub mod LiveLaw
 pub mod LiveSteps
+pub mod LiveWorlds
 pub mod NameLemmas
 pub mod NameSteps
+pub mod NamedLive
 pub mod OneRun
 pub mod PieceLemmas
 pub mod QueryLemmas

@@ -5,6 +5,7 @@ pub mod Ended
 pub mod Ends
 pub mod Following
 pub mod Headline
+pub mod LiveResults
 pub mod Lives
 pub mod Names
 pub mod Output

@@ -1,19 +1,25 @@
 //! What holds of the definitions themselves.
-ghost use Rattle.std.specs.Prelude.{◌≡◌, [], List, ℕ, ℤ};
+ghost use Rattle.std.specs.Prelude.{◌≡◌, ◌++◌, ◌∷◌, [], List, Some, map, true, ℕ, ℤ};
+ghost use Rattle.std.specs.List.{All};
 ghost use Rattle.og_base.specs.Calendar.{IsRefDay};
 ghost use Rattle.og_base.specs.Ranges.{Range};
+ghost use Rattle.og_value.specs.declared.kind.What.TheVariants as what;
+ghost use Rattle.og_value.specs.declared.schema.Column.{Column};
 ghost use Rattle.og_change.specs.Same.{IsLongest};
 ghost use Rattle.og_syntax.specs.declared.tree.Stmt.{Stmt};
 ghost use Rattle.og_words.specs.Grammar.{IsCommand};
 ghost use Rattle.og_words.specs.declared.command.Command as commands;
 ghost use Rattle.og_io.specs.Folders.{Folder};
+ghost use Rattle.og_query.specs.declared.query.Query.{Query};
 ghost use Rattle.og_query.specs.declared.typed.Typed.TheVariants as t;
 ghost use Rattle.og_db.specs.Effects.{Effect, on_names, world_of_day};
-ghost use Rattle.og_db.specs.Held.{known_of};
-ghost use Rattle.og_db.specs.Runs.{known_after};
+ghost use Rattle.og_db.specs.Held.{found, known_of, without};
+ghost use Rattle.og_db.specs.Live.{query_of, uses};
+ghost use Rattle.og_db.specs.Runs.{known_after, live_of};
 ghost use Rattle.og_faults.specs.Lines.{words_line};
 ghost use Rattle.og_script.specs.Scripts.{IsScript, IsScriptFault, IsScriptOf};
 ghost use Rattle.og_session.specs.Contents.{AreContents, Contents};
+ghost use Rattle.og_session.specs.LiveResults.{live_result};
 ghost use Rattle.og_output.specs.Records.{names_text};
 ghost use Rattle.og_session.specs.Output.{piece_of, printed, valid_range};
 ghost use Rattle.og_session.specs.Runs.{IsDefinedRun, IsNoCommand, IsRun, Run, refused, run_from};
@@ -73,6 +79,20 @@ pub fn valid_ranges()
 pub fn one_catalog()
     ensures tables { (before : List Effect) (day : ℤ) → names_text (world_of_day day before).names ≡ piece_of before (on_names t.Tables) }
     ensures known { (before : List Effect) (day : ℤ) (name : List ℕ) → known_of (world_of_day day before).names name ≡ known_after before name }
+{}
+
+/// What live results are on each day. After any front of what a run carries out, each is a live name with the
+/// columns of its query and the rows that this query has over the names of that day. No other name is live. A DROP
+/// of a table that its query names makes it a kept result, in its place, with the rows from before the DROP. It has
+/// nothing to do: it is called for this contract.
+pub fn live_results()
+    ensures live { (words : List (List ℕ)) (source : List ℕ) (start : Folder) (run : Run) (before after : List Effect) → IsDefinedRun words source start run → run.done ≡ before ++ after →
+        (day : ℤ) → All (λ l. found (world_of_day day before).names l.name ≡ Some (live_result what.Live day (world_of_day day before).names l)) (live_of before) }
+    ensures all { (before : List Effect) (name : List ℕ) (columns : List Column) → known_after before name ≡ Some (what.Live, columns) → (query : Query) × (query_of (live_of before) name ≡ Some query) }
+    ensures dropped { (words : List (List ℕ)) (source : List ℕ) (start : Folder) (run : Run) (before after : List Effect) (table : List ℕ) → IsDefinedRun words source start run → run.done ≡ before ++ on_names (t.Drop table) ∷ after →
+        (day : ℤ) → All (λ l. uses l.query table ≡ true → found (world_of_day day (before ++ on_names (t.Drop table) ∷ [])).names l.name ≡ Some (live_result what.Kept day (world_of_day day before).names l)) (live_of before) }
+    ensures order { (before : List Effect) (table : List ℕ) (day : ℤ) →
+        map (λ h. h.name) (world_of_day day (before ++ on_names (t.Drop table) ∷ [])).names ≡ map (λ h. h.name) (without table (world_of_day day before).names) }
 {}
 
 /// Any files hold something.

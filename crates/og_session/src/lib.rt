@@ -30,6 +30,6 @@ mod settle;
 mod step;
 mod valid;
 
-pub use law::{one_catalog, one_defined_run, valid_ranges};
+pub use law::{live_results, one_catalog, one_defined_run, valid_ranges};
 pub use og_script::MAX_SOURCE;
 pub use session::{Ended, run, run_gated, run_located};
