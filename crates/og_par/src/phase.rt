@@ -41,7 +41,7 @@ where
 
 // What is made of some items, in chunks of a size: the last one in a new thread, those before it from here.
 // So one thread begins all others, one after the other: where two begin others at one time, these wait longer
-// for a processor (docs/MEASURED.md).
+// for a processor.
 fn made_of_chunks<H: Threads + Sync, T: Sync, P: Piece<T> + Sync, G: Gate + Sync>(
     rt: &H,
     alloc: Global,
