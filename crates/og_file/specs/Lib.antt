@@ -1,4 +1,5 @@
 pub mod BadRecords
+pub mod CutFiles
 pub mod PlainFiles
 pub mod Readers
 pub mod Records

@@ -5,6 +5,7 @@ ghost use Rattle.csv.specs.Reading.{strip_bom};
 ghost use Rattle.og_value.specs.Words.{IsLowerWord};
 ghost use Rattle.og_value.specs.declared.schema.Column.{Column};
 ghost use Rattle.og_value.specs.declared.value.Value.{Value};
+ghost use Rattle.og_file.specs.CutFiles.{cut_fault_one, cut_fault_two};
 ghost use Rattle.og_file.specs.Records.{Record, AreAll, Begins};
 ghost use Rattle.og_file.specs.SavedFile.{IsSavedFault, IsSavedFile, IsVersionOne, IsVersionTwo, Pair};
 ghost use Rattle.og_file.specs.TableFile.{IsTableFault, IsTableFile};
@@ -71,7 +72,9 @@ pub fn a_mark_changes_nothing()
     ensures { (bytes : List ℕ) (records : List Record) → strip_bom bytes ≡ bytes → AreAll (0xEF ∷ 0xBB ∷ 0xBF ∷ bytes) records ↔ AreAll bytes records }
 {}
 
-/// A saved file that is cut between two records is no saved file any more, not even of other rows.
+/// A saved file that is cut between two records is no saved file any more, not even of other rows. Its fault
+/// is that of the header where this is gone too. Else it is the number of rows in version 1, and in version 2
+/// the first record that is missing.
 pub fn a_cut_file_is_refused()
     ensures one { (whole cut : List ℕ) (columns : List Column) (pairs : List Pair) (front rest : List Record) → IsVersionOne whole columns pairs (length pairs)
         → AreAll whole (front ++ rest) → rest ≢ [] → AreAll cut front
@@ -79,6 +82,12 @@ pub fn a_cut_file_is_refused()
     ensures two { (whole cut : List ℕ) (columns : List Column) (pairs : List Pair) (front rest : List Record) → IsVersionTwo whole columns pairs (length pairs)
         → AreAll whole (front ++ rest) → rest ≢ [] → AreAll cut front
         → (cs : List Column) (ps : List Pair) → ¬ IsSavedFile cut cs ps }
+    ensures fault_one { (whole cut : List ℕ) (columns : List Column) (pairs : List Pair) (front rest : List Record) → IsVersionOne whole columns pairs (length pairs)
+        → AreAll whole (front ++ rest) → rest ≢ [] → AreAll cut front
+        → IsSavedFault cut (cut_fault_one (length pairs) (length front)) }
+    ensures fault_two { (whole cut : List ℕ) (columns : List Column) (pairs : List Pair) (front rest : List Record) → IsVersionTwo whole columns pairs (length pairs)
+        → AreAll whole (front ++ rest) → rest ≢ [] → AreAll cut front
+        → IsSavedFault cut (cut_fault_two (length front)) }
 {}
 
 /// Any bytes are a table file, or no table file for one of the reasons that a refusal says.
