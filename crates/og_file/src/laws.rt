@@ -111,6 +111,15 @@ pub fn a_saved_file_is_no_table_file()
         → IsVersionTwo bytes saved pairs count → IsTableFault columns bytes FileRefusal.Header }
 {}
 
+/// The same of version 1; and a table file is no saved file of either version. Each is refused with the fault
+/// of a header, where the names of the columns are words.
+pub fn no_table_file_is_a_saved_file()
+    ensures one { (bytes : List ℕ) (columns saved : List Column) (pairs : List Pair) (count : ℕ) → All (λ c. IsLowerWord c.name) columns
+        → IsVersionOne bytes saved pairs count → IsTableFault columns bytes FileRefusal.Header }
+    ensures table { (bytes : List ℕ) (columns : List Column) (rows : List (List Value)) → All (λ c. IsLowerWord c.name) columns
+        → IsTableFile columns bytes rows → IsSavedFault bytes FileRefusal.Header }
+{}
+
 /// The names of a schema's columns are words in lower case. Called for its clause alone: it changes
 /// nothing and gives nothing back.
 pub fn column_names_are_words(schema: &Schema)
