@@ -29,7 +29,7 @@ cells_fit (_ ∷ _) [] _ are = absurd are
 cells_fit (_ ∷ _) (_ ∷ _) [] are = absurd are
 
 -- what holds of each record's value holds of all
-each_fits : {A : Type 0} (is : Record → A → Type 0) (P : A → Type 0) → ((r : Record) (x : A) → is r x → P x) → (rs : List Record) (xs : List A) → Each is rs xs → All P xs
+pub each_fits : {A : Type 0} (is : Record → A → Type 0) (P : A → Type 0) → ((r : Record) (x : A) → is r x → P x) → (rs : List Record) (xs : List A) → Each is rs xs → All P xs
 each_fits is P fits [] [] are = All-nil P
 each_fits is P fits (r ∷ rs) (x ∷ xs) are = All-cons P x xs (fits r x are.0) (each_fits is P fits rs xs are.1)
 each_fits is P fits [] (_ ∷ _) are = absurd are
@@ -38,7 +38,7 @@ each_fits is P fits (_ ∷ _) [] are = absurd are
 pub table_fits : (columns : List Column) (rs : List Record) (rows : List (List Value)) → Each (AreCells columns) rs rows → All (IsOfKinds columns) rows
 table_fits columns rs rows are = each_fits (AreCells columns) (IsOfKinds columns) (cells_fit columns) rs rows are
 
-pair_fits : (version : Version) (columns : List Column) (rs : List Record) (pairs : List Pair) → Each (IsRow version columns) rs pairs → All (λ p. IsOfKinds columns p.0) pairs
+pub pair_fits : (version : Version) (columns : List Column) (rs : List Record) (pairs : List Pair) → Each (IsRow version columns) rs pairs → All (λ p. IsOfKinds columns p.0) pairs
 pair_fits version columns rs pairs are = each_fits (IsRow version columns) (λ p. IsOfKinds columns p.0) (λ r p row. cells_fit columns row.0 p.0 row.3) rs pairs are
 
 pub saved_fits : (bytes : List ℕ) (columns : List Column) (pairs : List Pair) → IsSavedFile bytes columns pairs → All (λ p. IsOfKinds columns p.0) pairs

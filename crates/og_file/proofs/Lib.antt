@@ -17,6 +17,7 @@ pub mod OneLists
 pub mod OneSaved
 pub mod ReadBackLemmas
 pub mod RowLemmas
+pub mod SavedAgain
 pub mod SavedChoice
 pub mod SavedLemmas
 pub mod SetChoice

@@ -1,5 +1,5 @@
--- What is written for a relation is read again as a saved file of it.
-use Rattle.std.proofs.Common.{◌≡◌, ◌<◌, ◌≤◌, ◌^◌, ◌++◌, ◌∷◌, ◌∙◌, ℕ, List, [], None, length, map, refl, sym, inl, inr, arith}
+-- What is written for columns and rows is read again as a saved file of them.
+use Rattle.std.proofs.Common.{◌≡◌, ◌≤◌, ◌++◌, ◌∷◌, ◌∙◌, ℕ, List, [], None, length, map, refl, sym, subst, inl, inr, arith}
 use Rattle.std.specs.List.{All}
 use Rattle.std.specs.Str.{bytes_eq}
 use Rattle.std.proofs.lemmas.Bool.{cases_Bool}
@@ -13,15 +13,17 @@ use Rattle.csv.proofs.RoundTrip.{read-write, rows_text}
 use Rattle.og_base.specs.Ranges.{Range}
 use Rattle.og_base.specs.SetTexts.{set_text}
 use Rattle.og_value.specs.Cells.{cell_text, kind_of}
-use Rattle.og_value.specs.Schemas.{IsSchema}
 use Rattle.og_value.specs.Words.{IsLowerWord}
 use Rattle.og_value.specs.declared.schema.Column.{Column}
 use Rattle.og_value.specs.declared.value.Value.{Value}
 use Rattle.og_rel.specs.Relations.{HasDays}
+use Rattle.og_file.specs.PlainFiles.{CanBeSaved, IsPlainFile, text_of_records}
 use Rattle.og_file.specs.Records.{Record, AreAll, Each}
-use Rattle.og_file.specs.SavedFile.{Pair, AreColumns, IsDays, IsRow, IsVersionTwo, full_text, mark, two}
+use Rattle.og_file.specs.SavedFile.{Pair, AreColumns, IsDays, IsRow, IsSavedFile, IsVersionTwo, full_text, mark, two}
 use Rattle.og_file.specs.TableFile.{AreCells}
 use Rattle.og_file.specs.Writing.{IsOfKinds, IsReadAgain, column_text, count_text, days_text, row_record, records_of}
+use Rattle.og_file.proofs.OneSaved.{one_file}
+use Rattle.og_file.proofs.WriteLemmas.{rows_text-plain}
 
 -- each record has a field, and so is read as it was written
 abbrev HaveFields : List Record → Type 0
@@ -102,14 +104,24 @@ some_columns [] some = absurd (no_column some)
 some_columns (c ∷ cs) some = refl
 
 -- the text of the records is a saved file
-pub saved_file : (columns : List Column) (pairs : List Pair) → IsSchema columns → length pairs < 2 ^ 64 → All (λ c. IsLowerWord c.name) columns → All (λ p. IsOfKinds columns p.0) pairs
-    → All (λ p. HasDays p.1) pairs → All (λ p. All IsReadAgain p.0) pairs → IsVersionTwo (rows_text (records_of columns pairs)) columns pairs (length pairs)
-saved_file columns pairs schema count words fits days again = (
+saved_file : (columns : List Column) (pairs : List Pair) → CanBeSaved columns pairs → IsVersionTwo (rows_text (records_of columns pairs)) columns pairs (length pairs)
+saved_file columns pairs can = (
   map column_text columns,
   map row_record pairs,
   count_text (length pairs),
-  all_read _ (some_columns columns schema.some, have_fields pairs (count_text (length pairs))),
-  (columns_are columns words, schema),
-  rows_are columns pairs fits days again,
-  (refl, count),
+  all_read _ (some_columns columns can.schema.some, have_fields pairs (count_text (length pairs))),
+  (columns_are columns can.names, can.schema),
+  rows_are columns pairs can.kinds can.days can.values,
+  (refl, can.count),
 )
+
+-- and so a plain one
+pub plain_file : (columns : List Column) (pairs : List Pair) → CanBeSaved columns pairs → IsPlainFile (text_of_records (records_of columns pairs)) columns pairs
+plain_file columns pairs can = record {
+  version = subst (λ bytes. IsVersionTwo bytes columns pairs (length pairs)) (rows_text-plain (records_of columns pairs)) (saved_file columns pairs can);
+  text = refl;
+}
+
+-- nothing else is read of it
+pub read_again : (bytes : List ℕ) (columns cs : List Column) (pairs ps : List Pair) → IsPlainFile bytes columns pairs → IsSavedFile bytes cs ps → (cs ≡ columns) × (ps ≡ pairs)
+read_again bytes columns cs pairs ps plain file = one_file bytes cs columns ps pairs file (inr plain.version)

@@ -6,10 +6,11 @@ ghost use Rattle.og_value.specs.Words.{IsLowerWord};
 ghost use Rattle.og_value.specs.declared.schema.Column.{Column};
 ghost use Rattle.og_value.specs.declared.value.Value.{Value};
 ghost use Rattle.og_file.specs.CutFiles.{cut_fault_one, cut_fault_two};
+ghost use Rattle.og_file.specs.PlainFiles.{CanBeSaved, IsPlainFile, text_of_records};
 ghost use Rattle.og_file.specs.Records.{Record, AreAll, Begins};
 ghost use Rattle.og_file.specs.SavedFile.{IsSavedFault, IsSavedFile, IsVersionOne, IsVersionTwo, Pair};
 ghost use Rattle.og_file.specs.TableFile.{IsTableFault, IsTableFile};
-ghost use Rattle.og_file.specs.Writing.{IsOfKinds};
+ghost use Rattle.og_file.specs.Writing.{IsOfKinds, records_of};
 ghost use Rattle.og_file.specs.declared.refusal.FileRefusal.{FileRefusal};
 
 use og_value::Schema;
@@ -118,6 +119,24 @@ pub fn no_table_file_is_a_saved_file()
         → IsVersionOne bytes saved pairs count → IsTableFault columns bytes FileRefusal.Header }
     ensures table { (bytes : List ℕ) (columns : List Column) (rows : List (List Value)) → All (λ c. IsLowerWord c.name) columns
         → IsTableFile columns bytes rows → IsSavedFault bytes FileRefusal.Header }
+{}
+
+/// What was written is read again. Bytes that are the plain saved file of columns and rows on their days are a
+/// saved file of these, and of no others. And what a saved file can hold has such bytes.
+pub fn what_was_written_is_read_again()
+    ensures saved { (bytes : List ℕ) (columns : List Column) (pairs : List Pair) → IsPlainFile bytes columns pairs → IsSavedFile bytes columns pairs }
+    ensures same { (bytes : List ℕ) (columns cs : List Column) (pairs ps : List Pair) → IsPlainFile bytes columns pairs → IsSavedFile bytes cs ps
+        → (cs ≡ columns) × (ps ≡ pairs) }
+    ensures text { (columns : List Column) (pairs : List Pair) → CanBeSaved columns pairs → IsPlainFile (text_of_records (records_of columns pairs)) columns pairs }
+{}
+
+/// A saved file that is opened and saved keeps its columns and its rows on their days, and so its table on each
+/// day, also where it was of version 1. For what it holds can be saved, and the plain saved file of that is read
+/// as nothing else.
+pub fn a_saved_file_can_be_saved_again()
+    ensures held { (bytes : List ℕ) (columns : List Column) (pairs : List Pair) → IsSavedFile bytes columns pairs → CanBeSaved columns pairs }
+    ensures again { (bytes : List ℕ) (columns : List Column) (pairs : List Pair) → IsSavedFile bytes columns pairs
+        → (again : List ℕ) × IsPlainFile again columns pairs × ((cs : List Column) (ps : List Pair) → IsSavedFile again cs ps → (cs ≡ columns) × (ps ≡ pairs)) }
 {}
 
 /// The names of a schema's columns are words in lower case. Called for its clause alone: it changes

@@ -28,11 +28,12 @@ mod write;
 
 pub use bad_records::{BadRecord, bad_record, bad_saved_record};
 pub use laws::{
-    a_cut_file_is_refused, a_mark_changes_nothing, a_saved_file_is_no_table_file,
-    column_names_are_words, each_saved_file_or_fault, each_table_file_or_fault,
-    no_fault_of_a_saved_file, no_fault_of_a_table_file, no_table_file_is_a_saved_file,
-    one_fault_of_a_saved_file, one_fault_of_a_table_file, one_list_of_records, one_saved_file,
-    one_table_file, records_of_all_bytes, rows_of_a_saved_file_fit, rows_of_a_table_file_fit,
+    a_cut_file_is_refused, a_mark_changes_nothing, a_saved_file_can_be_saved_again,
+    a_saved_file_is_no_table_file, column_names_are_words, each_saved_file_or_fault,
+    each_table_file_or_fault, no_fault_of_a_saved_file, no_fault_of_a_table_file,
+    no_table_file_is_a_saved_file, one_fault_of_a_saved_file, one_fault_of_a_table_file,
+    one_list_of_records, one_saved_file, one_table_file, records_of_all_bytes,
+    rows_of_a_saved_file_fit, rows_of_a_table_file_fit, what_was_written_is_read_again,
 };
 pub use records::record_at;
 pub use refusal::FileRefusal;
