@@ -220,7 +220,7 @@ def main(words: List[str]) -> int:
     library, program = words
     with tempfile.TemporaryDirectory(prefix="ongq-faults-") as top:
         sweep = Sweep(os.path.abspath(program), os.path.abspath(library), top)
-        for name in ("join", "files", "live", "at", "load"):
+        for name in ("join", "sets", "kept", "import", "files", "live", "at", "load"):
             sweep.try_script(name)
     print(f".ci/faults/sweep: {sweep.runs:,} runs, {sweep.differences:,} differences")
     return 1 if sweep.differences else 0
