@@ -6,7 +6,7 @@ use og_io::{
 };
 use og_value::Text;
 use std::alloc::Global;
-use std::fs::{File, Permissions};
+use std::fs::Permissions;
 use std::io::{ErrorKind, Read, Write};
 use std::os::unix::fs::PermissionsExt;
 use std::{fs, io};
@@ -62,6 +62,16 @@ fn has_folder<H: fs::Files + AllocGlobal>(rt: &H, path: &str) -> bool {
     fs::create_dir(rt, path).is_ok()
 }
 
+// Whether the system has taken the folder away with what is in it.
+fn is_removed<H: fs::Files + AllocGlobal>(rt: &H, path: &str) -> bool {
+    fs::remove_dir_all(rt, path).is_ok()
+}
+
+// Whether the system has made the file, with the bytes of the text.
+fn is_made<H: fs::Files + AllocGlobal>(rt: &H, path: &str, text: &str) -> bool {
+    fs::write(rt, path, text).is_ok()
+}
+
 // Whether the system has the file, with the bytes of the text.
 fn is_there<H: fs::Files + AllocGlobal>(rt: &H, path: &str, text: &str) -> bool {
     match fs::read_to_string(rt, path) {
@@ -75,81 +85,81 @@ fn is_absent<H: fs::Files>(rt: &H, path: &str) -> bool {
     fs::exists(rt, path).ok() == Some(false)
 }
 
-// Whether the system has the file, with the bytes of the text, and not the other one.
-fn is_all_there<H: fs::Files + AllocGlobal>(rt: &H, path: &str, text: &str, other: &str) -> bool {
-    is_there(rt, path, text) && is_absent(rt, other)
+// Whether the folder has the file, with the bytes of the text, and lacks the other one.
+fn has_file<H: fs::Files + AllocGlobal>(rt: &H, name: &str, text: &str, other: &str) -> bool {
+    let mut files = FolderFiles::new(rt, rt.alloc());
+    reads(rt.alloc(), &mut files, name, text) && lacks(rt.alloc(), &mut files, other)
 }
 
-// Whether the file cannot be read while nobody has the right, unless the system lets this run read it.
-fn needs_the_right<H: fs::Files + AllocGlobal>(rt: &H, name: &str) -> bool {
-    let closed = fs::set_permissions(rt, name, Permissions::from_mode(0)).is_ok();
-    if File::open(rt, name).is_ok() {
-        return closed;
-    }
+// Whether the file is written three times, and read each time.
+fn is_written_over<H: fs::Files + AllocGlobal>(rt: &H, name: &str) -> bool {
     let mut files = FolderFiles::new(rt, rt.alloc());
-    closed && fails(rt.alloc(), &mut files, name)
+    writes(rt.alloc(), &mut files, name, "")
+        && writes(rt.alloc(), &mut files, name, "longer")
+        && writes(rt.alloc(), &mut files, name, "o")
+}
+
+// Whether reading the file of the folder fails.
+fn is_unread<H: fs::Files + AllocGlobal>(rt: &H, name: &str) -> bool {
+    fails(rt.alloc(), &mut FolderFiles::new(rt, rt.alloc()), name)
+}
+
+// Whether reading and writing the file of the folder fail.
+fn is_refused<H: fs::Files + AllocGlobal>(rt: &H, name: &str) -> bool {
+    refuses(rt.alloc(), &mut FolderFiles::new(rt, rt.alloc()), name)
+}
+
+// Whether the file is absent from the folder, and writing it fails.
+fn is_lost<H: fs::Files + AllocGlobal>(rt: &H, name: &str) -> bool {
+    let mut files = FolderFiles::new(rt, rt.alloc());
+    lacks(rt.alloc(), &mut files, name)
+        && written(rt.alloc(), &mut files, name, "x") == Some(Err(FilesRefusal::Failed))
+}
+
+// Whether nobody has a right to the file from now on.
+fn is_closed<H: fs::Files + AllocGlobal>(rt: &H, name: &str) -> bool {
+    fs::set_permissions(rt, name, Permissions::from_mode(0)).is_ok()
 }
 
 #[test]
 fn a_folder_has_files_by_their_names(rt: HostRuntime) {
-    assert!(rt; has_folder(&rt, "og_samples_files"));
-    assert!(rt; fs::write(&rt, "og_samples_files/old", "old").is_ok());
-    let mut files = FolderFiles::new(&rt, rt.alloc());
-    assert!(rt; reads(rt.alloc(), &mut files, "og_samples_files/old", "old"));
-    assert!(rt; lacks(rt.alloc(), &mut files, "og_samples_files/new"));
-    assert!(rt; fs::remove_dir_all(&rt, "og_samples_files").is_ok());
+    let (old, new) = ("og_samples_files/old", "og_samples_files/new");
+    assert!(rt; has_folder(&rt, "og_samples_files") && is_made(&rt, old, "old"));
+    assert!(rt; has_file(&rt, old, "old", new) && is_removed(&rt, "og_samples_files"));
 }
 
 #[test]
 fn a_file_is_written_over_one_of_its_name(rt: HostRuntime) {
-    assert!(rt; has_folder(&rt, "og_samples_written"));
-    let mut files = FolderFiles::new(&rt, rt.alloc());
-    for text in &["", "longer", "o"] {
-        assert!(rt;
-            writes(rt.alloc(), &mut files, "og_samples_written/new", text),
-            "{text}"
-        );
-    }
-    assert!(rt;
-        is_all_there(
-            &rt,
-            "og_samples_written/new",
-            "o",
-            "og_samples_written/.ongq-0"
-        )
-    );
-    assert!(rt; fs::remove_dir_all(&rt, "og_samples_written").is_ok());
+    let new = "og_samples_written/new";
+    assert!(rt; has_folder(&rt, "og_samples_written") && is_written_over(&rt, new));
+    assert!(rt; is_there(&rt, new, "o") && is_absent(&rt, "og_samples_written/.ongq-0"));
+    assert!(rt; is_removed(&rt, "og_samples_written"));
 }
 
+// The system may let this run read a file to which nobody has a right.
 #[test]
 fn a_file_that_may_not_be_read_is_a_fault(rt: HostRuntime) {
-    assert!(rt; has_folder(&rt, "og_samples_closed"));
-    assert!(rt; fs::write(&rt, "og_samples_closed/old", "old").is_ok());
-    assert!(rt; needs_the_right(&rt, "og_samples_closed/old"));
-    assert!(rt; fs::remove_dir_all(&rt, "og_samples_closed").is_ok());
+    let old = "og_samples_closed/old";
+    assert!(rt; has_folder(&rt, "og_samples_closed") && is_made(&rt, old, "old"));
+    assert!(rt; is_closed(&rt, old) && (is_there(&rt, old, "old") || is_unread(&rt, old)));
+    assert!(rt; is_removed(&rt, "og_samples_closed"));
 }
 
 #[test]
 fn a_folder_is_no_file(rt: HostRuntime) {
-    assert!(rt; has_folder(&rt, "og_samples_folder"));
-    let mut files = FolderFiles::new(&rt, rt.alloc());
-    assert!(rt; refuses(rt.alloc(), &mut files, "og_samples_folder"));
-    assert!(rt; fs::remove_dir_all(&rt, "og_samples_folder").is_ok());
+    let folder = "og_samples_folder";
+    assert!(rt; has_folder(&rt, folder) && is_refused(&rt, folder) && is_removed(&rt, folder));
 }
 
 #[test]
 fn a_missing_folder_lacks_files_and_takes_none(rt: HostRuntime) {
-    let mut files = FolderFiles::new(&rt, rt.alloc());
-    let lost = "og_samples_none/new";
-    assert!(rt; lacks(rt.alloc(), &mut files, lost));
-    assert!(rt; written(rt.alloc(), &mut files, lost, "x") == Some(Err(FilesRefusal::Failed)));
+    assert!(rt; is_lost(&rt, "og_samples_none/new"));
 }
 
 // None of these names is tried that would harm the system where it were written.
 #[test]
 fn a_name_that_leaves_the_folder_is_a_fault(rt: HostRuntime) {
-    let mut files = FolderFiles::new(&rt, rt.alloc());
-    assert!(rt; fails(rt.alloc(), &mut files, "/etc/passwd"));
+    assert!(rt; is_unread(&rt, "/etc/passwd"));
     for name in &[
         "",
         ".",
@@ -167,10 +177,15 @@ fn a_name_that_leaves_the_folder_is_a_fault(rt: HostRuntime) {
         "og_samples_outside\0",
         "\0",
     ] {
-        assert!(rt; refuses(rt.alloc(), &mut files, name), "{name:?}");
+        assert!(rt; is_refused(&rt, name), "{name:?}");
     }
-    assert!(rt; is_absent(&rt, "og_samples_outside"));
-    assert!(rt; is_absent(&rt, "../og_samples_outside") && is_absent(&rt, "/og_samples_outside"));
+    for name in &[
+        "og_samples_outside",
+        "../og_samples_outside",
+        "/og_samples_outside",
+    ] {
+        assert!(rt; is_absent(&rt, name), "{name}");
+    }
 }
 
 // Whether the file in memory has the bytes of the text, or is absent where there is none.
@@ -193,35 +208,45 @@ fn is_put(alloc: Global, files: &mut MemFiles, name: &str, text: &str) -> bool {
     files.put_file(&name, text.as_bytes()).is_ok()
 }
 
+// Whether a file of the memory is read and another one is absent, each by one call.
+fn are_read(alloc: Global, files: &mut MemFiles) -> bool {
+    is_put(alloc, files, "a", "old")
+        && files.calls() == 0
+        && files.bytes().is_empty()
+        && reads(alloc, files, "a", "old")
+        && files.calls() == 1
+        && lacks(alloc, files, "g.csv")
+        && files.calls() == 2
+}
+
 #[test]
 fn files_in_memory_are_read(rt: HostRuntime) {
     let mut files = MemFiles::new(rt.alloc(), None);
-    assert!(rt; is_put(rt.alloc(), &mut files, "a", "old") && files.calls() == 0);
-    assert!(rt; files.bytes().is_empty());
-    assert!(rt; reads(rt.alloc(), &mut files, "a", "old") && files.calls() == 1);
-    assert!(rt; lacks(rt.alloc(), &mut files, "g.csv") && files.calls() == 2);
-    assert!(rt; is_file(rt.alloc(), &files, "g.csv", None));
+    assert!(rt; are_read(rt.alloc(), &mut files) && is_file(rt.alloc(), &files, "g.csv", None));
+}
+
+// Whether a new file is written, beside one that was read and stays as it is.
+fn is_written_beside(alloc: Global, files: &mut MemFiles) -> bool {
+    is_put(alloc, files, "a", "old")
+        && reads(alloc, files, "a", "old")
+        && written(alloc, files, "../b", "new") == Some(Ok(()))
+        && is_text(files.bytes(), "old")
+        && is_file(alloc, files, "a", Some("old"))
+        && is_file(alloc, files, "../b", Some("new"))
+}
+
+// Whether the file is made empty by the fourth call, and is then put into memory again.
+fn is_put_again(alloc: Global, files: &mut MemFiles) -> bool {
+    writes(alloc, files, "a", "")
+        && files.calls() == 4
+        && is_put(alloc, files, "a", "again")
+        && is_file(alloc, files, "a", Some("again"))
 }
 
 #[test]
 fn files_in_memory_are_written(rt: HostRuntime) {
     let mut files = MemFiles::new(rt.alloc(), None);
-    assert!(rt;
-        is_put(rt.alloc(), &mut files, "a", "old") && reads(rt.alloc(), &mut files, "a", "old")
-    );
-    assert!(rt;
-        written(rt.alloc(), &mut files, "../b", "new") == Some(Ok(()))
-            && is_text(files.bytes(), "old")
-    );
-    assert!(rt;
-        is_file(rt.alloc(), &files, "a", Some("old"))
-            && is_file(rt.alloc(), &files, "../b", Some("new"))
-    );
-    assert!(rt; writes(rt.alloc(), &mut files, "a", "") && files.calls() == 4);
-    assert!(rt;
-        is_put(rt.alloc(), &mut files, "a", "again")
-            && is_file(rt.alloc(), &files, "a", Some("again"))
-    );
+    assert!(rt; is_written_beside(rt.alloc(), &mut files) && is_put_again(rt.alloc(), &mut files));
 }
 
 // Whether of a read and a write of each of two files just the one with this number fails.
@@ -253,13 +278,18 @@ fn one_call_of_files_in_memory_fails(rt: HostRuntime) {
     }
 }
 
+// Whether the file is read by the first and the third call, and not by the second.
+fn is_read_again(alloc: Global, files: &mut MemFiles) -> bool {
+    is_put(alloc, files, "a", "old")
+        && reads(alloc, files, "a", "old")
+        && fails(alloc, files, "a")
+        && reads(alloc, files, "a", "old")
+}
+
 #[test]
 fn a_file_in_memory_is_read_after_a_call_that_failed(rt: HostRuntime) {
     let mut files = MemFiles::new(rt.alloc(), Some(2));
-    assert!(rt;
-        is_put(rt.alloc(), &mut files, "a", "old") && reads(rt.alloc(), &mut files, "a", "old")
-    );
-    assert!(rt; fails(rt.alloc(), &mut files, "a") && reads(rt.alloc(), &mut files, "a", "old"));
+    assert!(rt; is_read_again(rt.alloc(), &mut files));
 }
 
 // A reader that gives a byte, and a writer that takes all. The second call of each fails.

@@ -70,27 +70,40 @@ impl Gate for Counting {
     }
 }
 
-// How often each number is told where so many workers make of so many items.
-fn told<H: Threads + Sync + AllocGlobal>(
-    rt: &H,
-    workers: usize,
-    items: u16,
-) -> Result<Vec<usize>, NoMemory>
-    requires least { 1 ≤ workers }
-    requires most { workers ≤ max_workers }
-{
-    let mut counts = Vec::new(rt.alloc());
+// One count of nothing for each number.
+fn counts(alloc: Global) -> Result<Vec<AtomicUsize>, NoMemory> {
+    let mut counts = Vec::new(alloc);
     for _ in 0..=MAX_WORKERS {
         counts.push(AtomicUsize::new(0))?;
     }
-    let gate = Counting { counts };
-    let items = numbers(rt.alloc(), items)?;
-    par_rows(rt, rt.alloc(), workers, items.as_slice(), &TenTimes, &gate)?;
-    let mut told = Vec::new(rt.alloc());
-    for count in &gate.counts {
-        told.push(count.load(Ordering::SeqCst))?;
+    Ok(counts)
+}
+
+// Whether just the first numbers, as many as there are chunks, were told, each once.
+fn are_told_once(counts: &[AtomicUsize], chunks: usize) -> bool {
+    for (number, count) in counts.iter().enumerate() {
+        if count.load(Ordering::SeqCst) != usize::from(number < chunks) {
+            return false;
+        }
     }
-    Ok(told)
+    counts.len() > MAX_WORKERS
+}
+
+// Whether each chunk is told once where that many workers make of that many items.
+fn tells_chunks<H: Threads + Sync + AllocGlobal>(
+    rt: &H,
+    workers: usize,
+    items: u16,
+    chunks: usize,
+) -> Result<bool, NoMemory>
+    requires least { 1 ≤ workers }
+    requires most { workers ≤ max_workers }
+{
+    let items = numbers(rt.alloc(), items)?;
+    let counts = counts(rt.alloc())?;
+    let gate = Counting { counts };
+    par_rows(rt, rt.alloc(), workers, items.as_slice(), &TenTimes, &gate)?;
+    Ok(are_told_once(gate.counts.as_slice(), chunks))
 }
 
 // The numbers from 1 up to that one.
@@ -153,15 +166,10 @@ fn each_chunk_is_told_once_by_its_number(rt: HostRuntime) -> Result<(), NoMemory
         (64, 1000, 63),
     ];
     for (workers, items, chunks) in phases {
-        let told = told(&rt, workers, items)?;
-        for (number, times) in told.iter().enumerate() {
-            let wanted = usize::from(number < chunks);
-            assert_eq!(rt;
-                *times,
-                wanted,
-                "{workers} workers, {items} items, chunk {number}"
-            );
-        }
+        assert!(rt;
+            tells_chunks(&rt, workers, items, chunks)?,
+            "{workers} workers, {items} items"
+        );
     }
     Ok(())
 }
