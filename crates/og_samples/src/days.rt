@@ -1,6 +1,8 @@
-//! Days: their numbers and their texts.
+//! Days: their numbers and their texts. Points and periods as they are written.
 use crate::listing::is_text;
+use crate::texts::{period, point};
 use og_base::{ExtDay, RefDay, read_day, write_day};
+use og_time::{write_period, write_point};
 use std::alloc::Global;
 
 // Whether the number is one of a reference day and of an extended day as it is said.
@@ -58,4 +60,19 @@ fn each_day_text_has_its_number_and_is_written_again(rt: HostRuntime) {
     ] {
         assert!(rt; is_day_text(rt.alloc(), text, *number), "{text}");
     }
+}
+
+#[test]
+fn no_other_text_is_a_day(rt: HostRuntime) {
+    for text in &["2019-02-29", "-000001-02-29", "-000000-01-01", "now", ""] {
+        assert!(rt; read_day(text.as_bytes()).is_err(), "{text}");
+    }
+}
+
+#[test]
+fn a_point_and_a_period_are_written_as_they_are_read(rt: HostRuntime) {
+    let mut out = Vec::new(rt.alloc());
+    assert!(rt; write_point(point(&rt, "now"), &mut out).is_ok());
+    assert!(rt; write_period(period(&rt, "[now,infinity)"), &mut out).is_ok());
+    assert!(rt; is_text(out.as_slice(), "now[now,infinity)"));
 }

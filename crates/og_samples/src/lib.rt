@@ -1,7 +1,8 @@
 //! Short tests of calls that no script can make: the texts and numbers of days, sets of days, the days on
-//! which something holds of points and periods, values and their cells, relations and the gluing of two rows,
-//! spans that overlap, phases of several workers, and devices: std's readers and writers, files in memory and of a
-//! folder. And the traits of rows and of joins at small types, with the proofs that these keep their laws.
+//! which something holds of points and periods, values and their cells, copies of a query, relations and the
+//! gluing of two rows, spans that overlap, phases of several workers, and devices: std's readers and writers,
+//! files in memory and of a folder. And the traits of rows and of joins at small types, with the proofs that
+//! these keep their laws.
 //!
 //! What a script with its output can say is a case (docs/CASES.md), and what a contract says is proved.
 #![tactic(auto)]
@@ -12,6 +13,8 @@ mod answers;
 mod candidates;
 #[cfg(test)]
 mod conditions;
+#[cfg(test)]
+mod copies;
 #[cfg(test)]
 mod days;
 #[cfg(test)]

@@ -75,13 +75,14 @@ fn a_set_is_taken_out_of_another_and_of_all_days(rt: HostRuntime) {
     let first = set(&rt, "{[2020-01-01,2020-01-05)}");
     let early = RtSet::below(rt.alloc(), day(&rt, "2020-01-03")).expect(&rt, "memory");
     assert_found(&rt, first.minus(&early), "{[2020-01-03,2020-01-05)}");
-    let copy = first.copy().expect(&rt, "memory");
+    assert_found(&rt, first.copy(), "{[2020-01-01,2020-01-05)}");
     let others = "{[-infinity,2020-01-01),[2020-01-05,infinity)}";
-    assert_found(&rt, copy.complement(), others);
+    assert_found(&rt, first.complement(), others);
 }
 
 #[test]
-fn no_day_is_below_all_or_above_the_last(rt: HostRuntime) {
+fn all_days_are_one_range_with_none_below_it_or_above_the_last(rt: HostRuntime) {
+    assert_found(&rt, RtSet::all(rt.alloc()), "{[-infinity,infinity)}");
     assert_empty(&rt, RtSet::below(rt.alloc(), day(&rt, "-infinity")));
     assert_empty(&rt, RtSet::above(rt.alloc(), day(&rt, "9999-12-31")));
 }

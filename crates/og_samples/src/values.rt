@@ -1,12 +1,15 @@
 //! Names, texts and schemas, and the cells of values by their texts.
 use crate::listing::is_text;
-use og_value::{CellRefusal, Column, Kind, Name, Schema, Text, Value, read_cell, write_cell};
+use og_value::{
+    CellRefusal, Column, Kind, Name, NameRefusal, Schema, Text, TextRefusal, Value, read_cell,
+    write_cell,
+};
 use std::alloc::Global;
 
-// Whether a copy of the name has its bytes.
+// Whether a copy of the name is the same, and has its bytes.
 fn is_copied(read: &Name, name: &str) -> bool {
     match read.copy() {
-        Ok(copy) => is_text(copy.bytes(), name),
+        Ok(copy) => copy == *read && is_text(copy.bytes(), name),
         Err(_) => false,
     }
 }
@@ -24,6 +27,7 @@ fn a_name_is_a_word_in_lower_case(rt: HostRuntime) {
     for (word, name) in &[("ID", "id"), ("_a1", "_a1"), ("Select", "select")] {
         assert!(rt; is_name(rt.alloc(), word, name), "{word}");
     }
+    assert!(rt; Name::of(rt.alloc(), b"2x").err() == Some(NameRefusal::NotAName));
 }
 
 // Whether the text has its bytes, and a copy is the same.
@@ -48,6 +52,7 @@ fn a_text_is_utf8(rt: HostRuntime) {
     for text in &["", "a", "fourteen bytes", "fourteen bytes!"] {
         assert!(rt; is_read(rt.alloc(), text), "{text}");
     }
+    assert!(rt; Text::of(rt.alloc(), b"\xff").err() == Some(TextRefusal::NotText));
 }
 
 // Whether it is a schema of the one column.
