@@ -128,6 +128,9 @@ class Sweep:
         if not whole.counts["alloc"]:
             self.tell(f"{name}: no allocation was counted, so faults.c does not stand before the program")
             return
+        saves = sum(step.statement.startswith("SAVE") for step in script.steps)
+        if (whole.counts["fsync"], whole.counts["rename"]) != (saves, saves):
+            self.tell(f"{name}: wanted that each of {saves} SAVE makes one call of fsync and one of rename, found {whole.counts}")
         trials = list(trials_of(whole.counts))
         with ThreadPoolExecutor(os.cpu_count()) as pool:
             ends = list(pool.map(lambda trial: self.run(script.words, script.source, before, trial.faults), trials))
