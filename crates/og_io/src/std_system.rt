@@ -3,6 +3,7 @@ ghost use Rattle.std.specs.Prelude.{◌≡◌, ◌≢◌, ◌≤◌, ◌↔◌, 
 ghost use Rattle.std.specs.Fs.{file_type, IsFile};
 ghost use Rattle.std.specs.IoError.{error_kind};
 ghost use Rattle.og_base.specs.Told.{HasCause};
+ghost use Rattle.og_io.specs.BelowFolder.{is_below_folder};
 
 use crate::failures::counted;
 use crate::source::Failed;
@@ -11,7 +12,8 @@ use std::fs::{File, Files, Metadata, OpenFile, OpenOptions};
 use std::io::{ErrorKind, Read, Write};
 use std::{fs, io};
 
-// The system through std, for one name.
+// The system through std, for one name, which lies in the folder or below it. It is made for no other name, so
+// std is asked for none.
 #[derive(Drop)]
 pub(crate) struct StdSystem<'a, H> {
     rt: &'a H,
@@ -22,6 +24,7 @@ pub(crate) struct StdSystem<'a, H> {
 
 impl<'a, H: Files> StdSystem<'a, H> {
     pub(crate) fn new(rt: &'a H, name: &'a str) -> StdSystem<'a, H>
+        requires below { is_below_folder name.now ≡ true }
         ensures name { result.name.now ≡ name.now }
         ensures faults { result.faults ≡ 0 }
         ensures kept { result.kept ≡ 0 }
