@@ -104,10 +104,10 @@ def copied(mark: str, query: str) -> str:
     return f"\\echo mark {mark}\nCOPY ({query}) TO STDOUT (FORMAT csv);\n"
 
 
-def asked(name: str, columns: list[str], days: list[str]) -> str:
+def asked(name: str, columns: list[str], kinds: list[str], days: list[str]) -> str:
     """The script of psql that writes the rows of a table on each day, in rising order, behind the number of the day."""
     shown = ", ".join(f'show("{column}")' for column in columns)
-    order = ", ".join(f'"{column}"' for column in columns)
+    order = ", ".join(f'"{column}"' + ' COLLATE "C"' * (kind == "TEXT") for column, kind in zip(columns, kinds))
     listed = ", ".join(f"read_day('{day}')" for day in days)
     rows = f"{name}_as_of(day_asked)"
     if len(columns) == 1:  # of one column that is a period PostgreSQL gives the parts
@@ -118,7 +118,7 @@ def asked(name: str, columns: list[str], days: list[str]) -> str:
 
 def last_asked(name: str) -> str:
     """The script that writes the rows on PostgreSQL's last day, which no text of ongq has."""
-    return copied(f"{name} last", f"SELECT DISTINCT o::text FROM {name}_as_of('{LAST_OF_POSTGRES}') o ORDER BY 1")
+    return copied(f"{name} last", f"SELECT DISTINCT to_json(o)::text COLLATE \"C\" FROM {name}_as_of('{LAST_OF_POSTGRES}') o ORDER BY 1")
 
 
 def kept_asked(name: str, columns: list[str]) -> str:

@@ -1,4 +1,4 @@
-"""Random tables and queries, by a seed: each of them as a script of ongq and as a query of PostgreSQL by ongoing.sql.
+"""Random tables and queries, by a seed: each of them as a script of ongq and as a query of PostgreSQL by the extension.
 
 An expression or condition is a tuple of a word and its parts: ("column", name, kind), ("literal", kind, text) or ("START", e)
 and the like; ("compare", sign, e, f), ("predicate", name, e, f), ("EMPTY", e), ("CONTAINS", e, f), ("NOT", c), ("AND", c, d),

@@ -17,6 +17,7 @@ sys.dont_write_bytecode = True
 import answers  # noqa: E402
 import cases  # noqa: E402
 import document  # noqa: E402
+import extension  # noqa: E402
 import page  # noqa: E402
 import scale  # noqa: E402
 import server  # noqa: E402
@@ -73,11 +74,11 @@ class Asked:
 
     def script(self, query: str = "", has_last: bool = False) -> str:
         """The script for psql: the file as a table r_NAME, and where there is a query its answer as q_NAME."""
-        columns = answers.load.names(self.saved.columns)
+        columns, kinds = answers.load.names(self.saved.columns), [column.kind for column in self.saved.columns]
         made = answers.table(self.file, f"r_{self.name}")
-        made += answers.asked(f"r_{self.name}", columns, self.days) + answers.kept_asked(f"r_{self.name}", columns)
+        made += answers.asked(f"r_{self.name}", columns, kinds, self.days) + answers.kept_asked(f"r_{self.name}", columns)
         if query:
-            made += answers.query_table(f"q_{self.name}", query) + answers.asked(f"q_{self.name}", columns, self.days)
+            made += answers.query_table(f"q_{self.name}", query) + answers.asked(f"q_{self.name}", columns, kinds, self.days)
         if has_last:
             made += answers.last_asked(f"r_{self.name}") + answers.last_asked(f"q_{self.name}")
         self.in_postgres, self.has_query, self.has_last = True, query != "", has_last
@@ -315,8 +316,7 @@ def has_module(name: str) -> bool:
 
 def try_all(test: Test, browser: Optional[str]) -> None:
     if test.postgres:
-        with open(f"{answers.INTEROP}/postgres/ongoing.sql", encoding="utf-8") as file:
-            test.postgres.ask(file.read())
+        extension.try_extension(test, test.postgres)
         try_load(test, test.postgres)
         try_unload(test, test.postgres)
         texts.try_functions(test)
@@ -333,7 +333,7 @@ def try_all(test: Test, browser: Optional[str]) -> None:
 
 def tell_left_out(postgres: Optional[server.Server], browser: Optional[str]) -> None:
     """Says by name what is not tried, as it is not on this machine."""
-    there = {"PostgreSQL 15 or later that starts (initdb, psql): ongoing.sql, load and unload": postgres,
+    there = {"PostgreSQL 15 or later that starts (initdb, psql, pg_config): the extension, load and unload": postgres,
              "Chromium that starts: the page of draw --html": browser, "pandas: to_dataframe of ongq": has_module("pandas"),
              "IPython: cells of a notebook": has_module("IPython"), "mypy: the types of the package": shutil.which("mypy")}
     for name, found in there.items():

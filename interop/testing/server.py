@@ -11,6 +11,10 @@ import subprocess
 import tempfile
 from typing import Iterator, Optional
 
+POSTGRES = os.path.join(os.path.dirname(os.path.dirname(os.path.realpath(__file__))), "postgres")
+EXTENSION = os.path.join(POSTGRES, "ongoing")
+EXTENSION_FILES = ("ongoing.control", "ongoing--1.0.sql")
+
 
 def programs() -> Optional[str]:
     """The folder of initdb of the newest PostgreSQL from 15 on, or None."""
@@ -24,11 +28,30 @@ def programs() -> Optional[str]:
     return newest[1] if newest[0] >= 15 and shutil.which("psql") else None
 
 
-class Server:
-    """The server runs inside `with`. For root, whom PostgreSQL refuses, it runs as the user postgres or nobody."""
+def copied(programs: str, folder: str) -> str:
+    """Copies PostgreSQL's programs and shared files into the folder, and the extension to them: a server finds these beside its
+    own program. So nothing is installed. Gives the folder of the copied programs."""
+    asked = [subprocess.run([f"{programs}/pg_config", f"--{word}dir"], capture_output=True, text=True, check=True).stdout.strip()
+             for word in ("bin", "share", "pkglib")]
+    common = os.path.commonpath(asked)
+    copies = [os.path.join(folder, "postgresql", os.path.relpath(place, common)) for place in asked]
+    for place, copy in zip(asked[:2], copies):
+        shutil.copytree(place, copy, ignore_dangling_symlinks=True)
+    os.symlink(asked[2], copies[2])
+    for name in EXTENSION_FILES:
+        shutil.copy(os.path.join(EXTENSION, name), f"{copies[1]}/extension")
+    return copies[0]
 
-    def __init__(self, folder_of_programs: str) -> None:
-        self.programs = folder_of_programs
+
+class Server:
+    """The server runs inside `with`. For root, whom PostgreSQL refuses, it runs as the user postgres or nobody.
+
+    With the extension, it is one of copied programs, which have that. Its locale is by ICU then, where PostgreSQL has ICU, as the
+    order of bytes has to be asked for there.
+    """
+
+    def __init__(self, folder_of_programs: str, with_extension: bool = False) -> None:
+        self.programs, self.with_extension = folder_of_programs, with_extension
 
     def run(self, program: str, *words: str) -> None:
         """Runs one of PostgreSQL's programs as its user, with what it says in the folder's log."""
@@ -44,13 +67,25 @@ class Server:
             os.chown(self.folder, owner.pw_uid, owner.pw_gid)
             self.user = {"user": owner.pw_uid, "group": owner.pw_gid, "extra_groups": []}
         try:
-            self.run("initdb", "-D", "data", "-A", "trust", "-U", "ongq", "--no-sync", "--locale=C", "--encoding=UTF8")
+            if self.with_extension:
+                self.programs = copied(self.programs, self.folder)
+            self.make_data()
             self.run("pg_ctl", "-D", "data", "-w", "start", "-l", "log_of_server", "-o",
                      f"-c listen_addresses='' -c fsync=off -c max_connections=10 -k {self.folder}")
         except BaseException:
             self.__exit__()
             raise
         return self
+
+    def make_data(self) -> None:
+        words = ["-D", "data", "-A", "trust", "-U", "ongq", "--no-sync", "--locale=C", "--encoding=UTF8"]
+        try:
+            self.run("initdb", *words, *(["--locale-provider=icu", "--icu-locale=en-US"] if self.with_extension else []))
+        except subprocess.CalledProcessError:
+            if not self.with_extension:
+                raise
+            print("interop/test: left out, as it is not here: PostgreSQL with ICU", flush=True)
+            self.run("initdb", *words)
 
     def __exit__(self, *_: object) -> None:
         if os.path.exists(self.folder + "/data/postmaster.pid"):
@@ -61,10 +96,10 @@ class Server:
         """What tells psql, and our load and unload, of this server."""
         return {**os.environ, "PGHOST": self.folder, "PGUSER": "ongq", "PGDATABASE": "postgres", "PGCLIENTENCODING": "UTF8"}
 
-    def ask(self, script: str) -> str:
-        """What psql writes for a script."""
-        done = subprocess.run(["psql", "-X", "-q", "-A", "-t", "-v", "ON_ERROR_STOP=1", "-f", "-"], input=script,
-                              capture_output=True, encoding="utf-8", env=self.environment())
+    def ask(self, script: str, database: str = "postgres", file: str = "-") -> str:
+        """What psql writes for a script, or for a file."""
+        done = subprocess.run(["psql", "-X", "-q", "-A", "-t", "-v", "ON_ERROR_STOP=1", "-f", file], input=script,
+                              capture_output=True, encoding="utf-8", env={**self.environment(), "PGDATABASE": database})
         if done.returncode:
             raise AssertionError(f"psql: {done.stderr[:2000]}")
         return done.stdout
@@ -76,7 +111,7 @@ def started() -> Iterator[Optional[Server]]:
     with contextlib.ExitStack() as stack:
         folder = programs()
         try:
-            server = stack.enter_context(Server(folder)) if folder else None
+            server = stack.enter_context(Server(folder, True)) if folder else None
         except (OSError, subprocess.CalledProcessError) as why:
             print(f"interop/test: {why}")
             server = None

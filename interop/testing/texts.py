@@ -51,10 +51,11 @@ def try_texts(test: Any) -> None:
 
 
 def try_functions(test: Any) -> None:
-    """The functions of ongoing.sql are immutable and parallel safe, but for those that read or make tables; NULL gives NULL."""
+    """The functions of the extension are immutable and parallel safe, but for those that read or make tables; NULL gives NULL."""
     found = test.postgres.ask("""SELECT string_agg(proname, ' ' ORDER BY proname) FROM pg_proc
         WHERE pronamespace = 'ongoing'::regnamespace AND (provolatile <> 'i' OR proparallel <> 's');""")
-    test.same("functions", "those that are not immutable", "create_table make_as_of unload_query\n", found)
+    wanted = "columns_of create_table has_columns make_as_of type_at unload_query\n"
+    test.same("functions", "those that are not immutable", wanted, found)
     found = test.postgres.ask("""SET search_path = public, ongoing;
         SELECT num_nulls(at(NULL::ongoing_point, '2020-01-01'), at(read_point('now'), NULL), at(read_period('[now,now)'), NULL),
             less(NULL, read_point('now')), at_most(read_point('now'), NULL), overlaps(NULL, read_period('[now,now)')),
