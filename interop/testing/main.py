@@ -17,6 +17,7 @@ sys.dont_write_bytecode = True
 import answers  # noqa: E402
 import cases  # noqa: E402
 import document  # noqa: E402
+import exchange  # noqa: E402
 import extension  # noqa: E402
 import page  # noqa: E402
 import scale  # noqa: E402
@@ -272,44 +273,6 @@ def try_spoilt_files(test: Test) -> None:
             test.same("what is said of a spoilt file", f"version {version}, number {number}: {one}", wanted, found)
 
 
-def call(test: Test, *words: str) -> tuple[int, str]:
-    """The status and the output of load or unload."""
-    done = subprocess.run([f"{answers.INTEROP}/postgres/{words[0]}", *words[1:]], cwd=test.folder,
-                          env=test.postgres.environment(), capture_output=True, text=True)
-    return done.returncode, done.stdout
-
-
-def try_load(test: Test, postgres: server.Server) -> None:
-    """load of a whole file and of one that is cut."""
-    shutil.copy(f"{answers.TOP}/examples/patches.left/r.csv", test.file("r.csv"))
-    test.put("cut.csv", test.text("r.csv")[:-8])
-    test.same("load", "its status", (0, ""), call(test, "load", "r.csv", "loaded"))
-    found = postgres.ask("COPY (SELECT * FROM loaded_as_of('2020-08-16') ORDER BY 1, 2) TO STDOUT (FORMAT csv)")
-    test.same("load", "its table", "500,201\n501,201\n", found)
-    test.same("load", "of a cut file", (5, ""), call(test, "load", "cut.csv", "cut"))
-    test.same("load", "no table of a cut file", "\n", postgres.ask("SELECT to_regclass('cut');"))
-
-
-def try_unload(test: Test, postgres: server.Server) -> None:
-    """unload of a table with dates that are open, whose file ongq imports, and of one with NULL."""
-    postgres.ask("""CREATE TABLE staff (name varchar(20), number int, works daterange, born date);
-        INSERT INTO staff VALUES ('Ines, "I"', 1, '[2023-05-01,)', '0044-03-15 BC'), ('', -2, '(,2024-01-01]', '2000-02-29'),
-            ('Jon', 3, 'empty', 'infinity'), ('Kim', 4, '[2020-01-01,infinity)', '-infinity');""")
-    kinds = "name TEXT, number INT, works PERIOD, born DATE"
-    for word, end in (("now", "2026-01-15"), ("infinite", "infinity")):
-        test.same("unload", word, (0, f"CREATE TABLE staff ({kinds});\n"), call(test, "unload", "staff", "staff.csv", word))
-        found = answers.run(test.program, test.folder, f"CREATE TABLE staff ({kinds}); IMPORT INTO staff FROM 'staff.csv';"
-                            "PRINT staff AS OF DATE '2026-01-15';")
-        wanted = [["", "-2", "[-infinity,2024-01-02)", "2000-02-29"],
-                  ["Ines, \"I\"", "1", f"[2023-05-01,{end})", "-000043-03-15"],
-                  ["Jon", "3", "[infinity,-infinity)", "infinity"],
-                  ["Kim", "4", f"[2020-01-01,{end})", "-infinity"]]
-        test.same("unload", f"what is imported, {word}", wanted, answers.records(found)[1:])
-    postgres.ask("INSERT INTO staff VALUES (NULL, 5, 'empty', 'infinity');")
-    test.same("unload", "of NULL", (1, f"CREATE TABLE staff ({kinds});\n"), call(test, "unload", "staff", "none.csv", "now"))
-    test.same("unload", "no file", False, os.path.exists(test.file("none.csv")))
-
-
 def has_module(name: str) -> bool:
     return importlib.util.find_spec(name) is not None
 
@@ -317,8 +280,7 @@ def has_module(name: str) -> bool:
 def try_all(test: Test, browser: Optional[str]) -> None:
     if test.postgres:
         extension.try_extension(test, test.postgres)
-        try_load(test, test.postgres)
-        try_unload(test, test.postgres)
+        exchange.try_exchange(test, test.postgres)
         texts.try_functions(test)
     texts.try_texts(test)
     try_examples(test)

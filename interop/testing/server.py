@@ -98,11 +98,11 @@ class Server:
 
     def ask(self, script: str, database: str = "postgres", file: str = "-") -> str:
         """What psql writes for a script, or for a file."""
-        done = subprocess.run(["psql", "-X", "-q", "-A", "-t", "-v", "ON_ERROR_STOP=1", "-f", file], input=script,
-                              capture_output=True, encoding="utf-8", env={**self.environment(), "PGDATABASE": database})
+        done = subprocess.run(["psql", "-X", "-q", "-A", "-t", "-v", "ON_ERROR_STOP=1", "-f", file], input=script.encode(),
+                              capture_output=True, env={**self.environment(), "PGDATABASE": database})
         if done.returncode:
-            raise AssertionError(f"psql: {done.stderr[:2000]}")
-        return done.stdout
+            raise AssertionError(f"psql: {done.stderr.decode()[:2000]}")
+        return done.stdout.decode()
 
 
 @contextlib.contextmanager

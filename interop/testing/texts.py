@@ -54,7 +54,7 @@ def try_functions(test: Any) -> None:
     """The functions of the extension are immutable and parallel safe, but for those that read or make tables; NULL gives NULL."""
     found = test.postgres.ask("""SELECT string_agg(proname, ' ' ORDER BY proname) FROM pg_proc
         WHERE pronamespace = 'ongoing'::regnamespace AND (provolatile <> 'i' OR proparallel <> 's');""")
-    wanted = "columns_of create_table has_columns make_as_of type_at unload_query\n"
+    wanted = "columns_for columns_of create_table has_columns has_days make_as_of save_header save_query type_at unload_query\n"
     test.same("functions", "those that are not immutable", wanted, found)
     found = test.postgres.ask("""SET search_path = public, ongoing;
         SELECT num_nulls(at(NULL::ongoing_point, '2020-01-01'), at(read_point('now'), NULL), at(read_period('[now,now)'), NULL),

@@ -518,22 +518,86 @@ CREATE FUNCTION shown(value text, name text) RETURNS text IMMUTABLE PARALLEL SAF
 RETURN coalesce(value, refuse('ongq has no NULL, and the column has one: ' || name || coalesce(value, '')));
 COMMENT ON FUNCTION shown(text, text) IS 'the value that is shown; an error where it is NULL';
 
+CREATE FUNCTION name_of(name name, may_be_reserved boolean) RETURNS text IMMUTABLE STRICT PARALLEL SAFE
+RETURN CASE WHEN name::text COLLATE "C" !~ '^[A-Za-z_][A-Za-z0-9_]*$' THEN refuse('no name of ongq: ' || name)
+    WHEN NOT may_be_reserved AND lower(name::text COLLATE "C") IN ('and', 'as', 'before', 'common', 'contains', 'create', 'date', 'delete',
+        'drop', 'during', 'empty', 'end', 'equals', 'except', 'exists', 'explain', 'finishes', 'from', 'greatest', 'import', 'insert',
+        'int', 'intersect', 'into', 'join', 'keep', 'least', 'live', 'meets', 'not', 'of', 'on', 'ongoing', 'open', 'or', 'overlaps',
+        'period', 'print', 'save', 'select', 'set', 'start', 'starts', 'table', 'tables', 'text', 'to', 'union', 'update', 'valid',
+        'values', 'where') THEN refuse('a reserved word of ongq: ' || name)
+    ELSE lower(name::text COLLATE "C") END;
+COMMENT ON FUNCTION name_of(name, boolean) IS
+    'the name as ongq keeps it; an error where it is none, or a reserved word where it may not be one, as in CREATE TABLE';
+
+CREATE FUNCTION is_days(name name, type oid) RETURNS boolean IMMUTABLE PARALLEL SAFE
+RETURN name = 'days' AND type = 'datemultirange'::regtype;
+COMMENT ON FUNCTION is_days(name, oid) IS 'whether a column has the days on which each row is there';
+
+CREATE FUNCTION cell_of(name name, type oid, open text) RETURNS text IMMUTABLE STRICT PARALLEL SAFE
+RETURN format('ongoing.shown(%s, %L)', CASE WHEN type = 'daterange'::regtype THEN format('ongoing.show(%I, %L)', name, open)
+    WHEN kind_of(type) = 'INT' THEN format('ongoing.show(%I::bigint)', name)
+    WHEN kind_of(type) = 'TEXT' THEN format('ongoing.show(%I::text)', name)
+    WHEN kind_of(type) IS NULL THEN refuse(format('no kind of ongq for %s %s', name, type::regtype))
+    ELSE format('ongoing.show(%I)', name) END, name);
+COMMENT ON FUNCTION cell_of(name, oid, text) IS 'what gives the cell of a column: a text of SQL';
+
+CREATE FUNCTION columns_for(of regclass, may_be_reserved boolean) RETURNS SETOF pg_attribute STABLE LANGUAGE plpgsql
+SET search_path = pg_catalog AS $$
+DECLARE
+    count bigint;
+    different bigint;
+BEGIN
+    SELECT count(ongoing.name_of(attname, may_be_reserved)), count(DISTINCT lower(attname COLLATE "C")) INTO count, different
+    FROM pg_attribute WHERE attrelid = of AND attnum > 0 AND NOT attisdropped AND NOT ongoing.is_days(attname, atttypid);
+    PERFORM ongoing.refuse(format('ongq has 1 to 64 columns: %s has %s', of, count)) WHERE count NOT BETWEEN 1 AND 64;
+    PERFORM ongoing.refuse(format('two columns of %s have one name in ongq', of)) WHERE different < count AND NOT may_be_reserved;
+    RETURN QUERY SELECT * FROM pg_attribute
+        WHERE attrelid = of AND attnum > 0 AND NOT attisdropped AND NOT ongoing.is_days(attname, atttypid) ORDER BY attnum;
+END $$;
+COMMENT ON FUNCTION columns_for(regclass, boolean) IS 'the columns of a table but its days; an error where ongq refuses their number or names';
+
+CREATE FUNCTION has_days(of regclass) RETURNS boolean STABLE LANGUAGE sql
+BEGIN ATOMIC
+    SELECT EXISTS (SELECT FROM pg_attribute WHERE attrelid = of AND attnum > 0 AND NOT attisdropped AND is_days(attname, atttypid));
+END;
+COMMENT ON FUNCTION has_days(regclass) IS 'whether a table has a column days with the days on which each row is there';
+
+-- A table file, for IMPORT.
+
 CREATE FUNCTION unload_query(of regclass, open text) RETURNS text STABLE LANGUAGE sql
 BEGIN ATOMIC
-    SELECT format('SELECT %s FROM %s', string_agg(format('ongoing.shown(%s, %L) AS %I',
-        CASE WHEN kind_of(atttypid) IS NULL THEN refuse(format('no kind of ongq for %s %s', attname, atttypid::regtype))
-            WHEN atttypid = 'daterange'::regtype THEN format('ongoing.show(%I, %L)', attname, open)
-            WHEN kind_of(atttypid) = 'INT' THEN format('ongoing.show(%I::bigint)', attname)
-            WHEN kind_of(atttypid) = 'TEXT' THEN format('ongoing.show(%I::text)', attname)
-            ELSE format('ongoing.show(%I)', attname) END, attname, attname), ', ' ORDER BY attnum), of)
-    FROM pg_attribute WHERE attrelid = of AND attnum > 0 AND NOT attisdropped;
+    SELECT CASE WHEN has_days(of) THEN refuse(format('a table file has no days of rows: interop/postgres/save saves %s', of))
+        ELSE format('SELECT %s FROM %s', string_agg(format('%s AS %I', cell_of(attname, atttypid, open), attname), ', ' ORDER BY attnum), of) END
+    FROM columns_for(of, false);
 END;
 COMMENT ON FUNCTION unload_query(regclass, text) IS 'the query of the cells of a table file of a table';
 
 CREATE FUNCTION create_table(of regclass) RETURNS text STABLE LANGUAGE sql
 BEGIN ATOMIC
-    SELECT format('CREATE TABLE %s (%s);', relname, string_agg(attname || ' ' || kind_of(atttypid), ', ' ORDER BY attnum))
-    FROM pg_class c JOIN pg_attribute a ON attrelid = c.oid
-    WHERE c.oid = of AND attnum > 0 AND NOT attisdropped GROUP BY relname;
+    SELECT format('CREATE TABLE %s (%s);', name_of((SELECT relname FROM pg_class WHERE oid = of), false),
+        string_agg(name_of(attname, false) || ' ' || kind_of(atttypid), ', ' ORDER BY attnum))
+    FROM columns_for(of, false);
 END;
 COMMENT ON FUNCTION create_table(regclass) IS 'the statement of ongq that makes the table for a table file of a table';
+
+-- A saved file of version 2, for OPEN.
+
+CREATE FUNCTION field(cell text) RETURNS text IMMUTABLE STRICT PARALLEL SAFE
+RETURN CASE WHEN cell ~ '[,"\r\n]' THEN '"' || replace(cell, '"', '""') || '"' ELSE cell END;
+COMMENT ON FUNCTION field(text) IS 'a field of a record as ongq writes it, with quotes where it needs them';
+
+CREATE FUNCTION save_header(of regclass) RETURNS text STABLE LANGUAGE sql
+BEGIN ATOMIC
+    SELECT string_agg(name_of(attname, true) || ':' || coalesce(kind_of(atttypid), ''), ',' ORDER BY attnum) FROM columns_for(of, true);
+END;
+COMMENT ON FUNCTION save_header(regclass) IS 'the record of the columns in a saved file of a table';
+
+CREATE FUNCTION save_query(of regclass) RETURNS text STABLE LANGUAGE sql
+BEGIN ATOMIC
+    SELECT format(CASE WHEN has_days(of) THEN
+        'SELECT %s || '','' || ongoing.field(ongoing.shown(ongoing.show(days), ''days'')) FROM %s WHERE (days && ''{(,10000-01-01)}'') IS NOT FALSE'
+        ELSE 'SELECT %s || '',*'' FROM %s' END,
+        string_agg(format('ongoing.field(%s)', cell_of(attname, atttypid, 'infinity')), ' || '','' || ' ORDER BY attnum), of)
+    FROM columns_for(of, true);
+END;
+COMMENT ON FUNCTION save_query(regclass) IS 'the query of the records of rows in a saved file of a table';
