@@ -3,6 +3,7 @@ from __future__ import annotations
 
 import contextlib
 import doctest
+import importlib.util
 import os
 import re
 import subprocess
@@ -46,7 +47,7 @@ def try_console(test: Any, text: str, environment: dict[str, str]) -> None:
 
 
 def try_document(test: Any) -> None:
-    """All blocks; those with PostgreSQL where it is there."""
+    """All blocks; those with PostgreSQL or pandas where it is there."""
     environment = dict(os.environ)
     if test.postgres:
         test.postgres.ask("CREATE DATABASE document;")
@@ -59,6 +60,7 @@ def try_document(test: Any) -> None:
         names: dict[str, Any] = {}
         for kind, text in blocks:
             if kind == "python":
-                try_python(test, text, names)
-            elif test.postgres or "postgres" not in text:
+                if "import pandas" not in text or importlib.util.find_spec("pandas"):
+                    try_python(test, text, names)
+            elif test.postgres or not re.search("postgres|psql", text):
                 try_console(test, text, environment)

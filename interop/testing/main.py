@@ -296,7 +296,7 @@ def try_all(test: Test, browser: Optional[str]) -> None:
 def tell_left_out(postgres: Optional[server.Server], browser: Optional[str]) -> None:
     """Says by name what is not tried, as it is not on this machine."""
     there = {"PostgreSQL 15 or later that starts (initdb, psql, pg_config): the extension, load and unload": postgres,
-             "Chromium that starts: the page of draw --html": browser, "pandas: to_dataframe of ongq": has_module("pandas"),
+             "Chromium that starts: the page of draw --html": browser, "pandas: to_dataframe of ongq, and read_csv of a saved file": has_module("pandas"),
              "IPython: cells of a notebook": has_module("IPython"), "mypy: the types of the package": shutil.which("mypy")}
     for name, found in there.items():
         if not found:
