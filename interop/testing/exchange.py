@@ -18,8 +18,36 @@ def call(test: Any, *words: str) -> tuple[int, str]:
     return done.returncode, done.stdout
 
 
+# Files that load refuses: cut, with more and fewer rows than they say, with what PostgreSQL has not, and no number.
+REFUSED = {"more rows": "ongq:2\nn:INT\n1,*\n2,*\nrows:1\n", "fewer rows": "ongq:2\nn:INT\n1,*\nrows:2\n",
+           "more rows in version 1": 'n:INT,rows:1\n1,"{[-infinity,infinity)}"\n2,"{[-infinity,infinity)}"\n',
+           "a text with NUL": "ongq:2\ns:TEXT\na\0b,*\nc,*\nrows:2\n", "a date that PostgreSQL has not": "ongq:2\nd:DATE\n-004713-11-23,*\nrows:1\n",
+           "a number of 5,000 digits": f"ongq:2\nn:INT\n{'9' * 5_000},*\nrows:1\n"}
+
+# Days of rows up to PostgreSQL's first, and what is left of them there.
+BEFORE_FIRST = {"{[-009999-01-02,-005000-06-01)}": "{}", "{[-infinity,-004713-11-24)}": "{}", "{[-infinity,-004713-11-25)}": "{[-infinity,-004713-11-25)}",
+                "{[-009999-01-02,-009000-01-01),[-004713-11-23,2020-01-01)}": "{[-infinity,2020-01-01)}",
+                "{[-infinity,-009000-01-01),[-004713-11-24,infinity)}": "*", "{[-009000-01-01,infinity)}": "*", "{[-004713-11-25,infinity)}": "{[-004713-11-25,infinity)}"}
+
+
+def try_days_before_first(test: Any, postgres: server.Server) -> None:
+    """Days before PostgreSQL's first fall away in load, and where PostgreSQL reads the text of a set."""
+    rows = "".join(f'{number},"{days}"\n' for number, days in enumerate(BEFORE_FIRST))
+    test.put("before.csv", f"ongq:2\nn:INT\n{rows}rows:{len(BEFORE_FIRST)}\n")
+    test.same("load", "of days before PostgreSQL's first", (0, ""), call(test, "load", "before.csv", "before"))
+    found = postgres.ask("SELECT ongoing.show(days) FROM before ORDER BY n;").splitlines()
+    test.same("load", "days before PostgreSQL's first", BEFORE_FIRST, dict(zip(BEFORE_FIRST, found)))
+    listed = ", ".join(f"('{days}')" for days in BEFORE_FIRST)
+    found = postgres.ask(f"SELECT ongoing.show(ongoing.read_days(text)) FROM (VALUES {listed}) AS given(text);").splitlines()
+    test.same("load", "days before PostgreSQL's first, as texts", BEFORE_FIRST, dict(zip(BEFORE_FIRST, found)))
+
+
 def try_load(test: Any, postgres: server.Server) -> None:
-    """load of a whole file and of one that is cut."""
+    """load of a whole file, of one that is cut, and of others that are refused."""
+    for name, text in REFUSED.items():
+        test.put("spoilt.csv", text)
+        test.same("load", name, (5, ""), call(test, "load", "spoilt.csv", "refused"))
+        test.same("load", f"no table of {name}", "\n", postgres.ask("SELECT to_regclass('refused');"))
     shutil.copy(f"{answers.TOP}/examples/patches.left/r.csv", test.file("r.csv"))
     test.put("cut.csv", test.text("r.csv")[:-8])
     test.same("load", "its status", (0, ""), call(test, "load", "r.csv", "loaded"))
@@ -113,6 +141,7 @@ def try_save(test: Any, postgres: server.Server) -> None:
 
 def try_exchange(test: Any, postgres: server.Server) -> None:
     try_load(test, postgres)
+    try_days_before_first(test, postgres)
     try_unload(test, postgres)
     try_save(test, postgres)
     try_refused(test, postgres)

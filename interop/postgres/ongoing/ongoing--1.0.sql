@@ -310,9 +310,9 @@ RETURN CASE WHEN t ~ '^\[[^,]+,[^,]+\)$'
 COMMENT ON FUNCTION read_period(text) IS 'the period of a period text';
 
 CREATE FUNCTION read_end(t text) RETURNS date IMMUTABLE STRICT PARALLEL SAFE
-RETURN CASE WHEN t ~ '^-00[0-9]{4}-' AND (substr(t, 4, 4) > '4713' OR substr(t, 4, 4) = '4713' AND right(t, 5) < '11-24')
+RETURN CASE WHEN t ~ '^-00[0-9]{4}-' AND (substr(t, 4, 4) > '4713' OR substr(t, 4, 4) = '4713' AND right(t, 5) <= '11-24')
     THEN '-infinity' ELSE read_day(t) END;
-COMMENT ON FUNCTION read_end(text) IS 'the end of a range in a set text; -infinity where the day is before PostgreSQL''s first';
+COMMENT ON FUNCTION read_end(text) IS 'the end of a range in a set text; -infinity up to PostgreSQL''s first day, before which there is none';
 
 CREATE FUNCTION read_days(t text) RETURNS datemultirange IMMUTABLE STRICT PARALLEL SAFE
 RETURN CASE WHEN t = '*' THEN '{(,)}'::datemultirange

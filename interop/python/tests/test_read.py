@@ -91,6 +91,8 @@ class Read(Files):
 
     def test_the_number_of_rows(self) -> None:
         for text, wanted in (("ongq:2\nn:INT\n1,*\n", "record 4"), ("ongq:2\nn:INT\n1,*\nrows:2\n", "row count: said 2 found 1"),
+                             ("ongq:2\nn:INT\n1,*\n2,*\nrows:1\n", "row count: said 1 found 2"),
+                             ('n:INT,rows:0\n1,"{[-infinity,infinity)}"\n', "row count: said 0 found 1"),
                              ("ongq:2\nn:INT\nrows:0\n1,*\n", "record 3"), ("ongq:2\nn:INT\nrows:0\nrows:0\n", "record 3"),
                              ("n:INT,rows:1\n", "row count: said 1 found 0"),
                              (f"n:INT,rows:{'1' * 5_000}\n", "header"), ("n\0:INT,rows:1\n", "header"),
