@@ -16,6 +16,7 @@ INTEROP = os.path.dirname(HERE)
 TOP = os.path.dirname(INTEROP)
 sys.path.insert(0, f"{INTEROP}/python")
 import ongq  # noqa: E402
+from ongq import saved  # noqa: E402
 
 Rows = list[list[str]]
 Answers = dict[str, Rows]
@@ -73,18 +74,15 @@ def printed(output: str, days: list[str]) -> Answers:
 
 
 def of_python(path: str, days: list[str]) -> Answers:
-    saved = ongq.read(path)
-    return {day: [[str(value) for value in row] for row in saved.rows(day)] for day in days}
+    found = ongq.read(path)
+    return {day: [[str(value) for value in row] for row in found.rows(day)] for day in days}
 
 
 def version_1(text: str) -> str:
     """A saved file of version 2 as one of version 1 with the same rows."""
     _, columns, *rows, count = records(text)
-    out = io.StringIO(newline="")
-    writer = csv.writer(out, lineterminator="\n")
-    writer.writerow(columns + count)
-    writer.writerows(row[:-1] + ["{[-infinity,infinity)}" if row[-1] == "*" else row[-1]] for row in rows)
-    return out.getvalue()
+    rows = [row[:-1] + ["{[-infinity,infinity)}" if row[-1] == "*" else row[-1]] for row in rows]
+    return "".join(map(saved.record_text, [columns + count, *rows]))
 
 
 def table(path: str, name: str) -> str:
@@ -93,10 +91,11 @@ def table(path: str, name: str) -> str:
         return "".join(load.statements(lines, name))
 
 
-def query_table(name: str, query: str) -> str:
-    """The script of psql that keeps the answer of a query."""
-    return (f"CREATE TABLE {name} AS {query.strip().rstrip(';')};\nDELETE FROM {name} WHERE isempty(days);\n"
-            f"DO $$ BEGIN PERFORM make_as_of('{name}'); END $$;\n")
+def query_table(name: str, query: str, as_view: bool) -> str:
+    """The script of psql that keeps the answer of a query, or makes a view of it."""
+    made = f"CREATE {'VIEW' if as_view else 'TABLE'} {name} AS {query.strip().rstrip(';')};\n"
+    gone = "" if as_view else f"DELETE FROM {name} WHERE isempty(days);\n"
+    return f"{made}{gone}DO $$ BEGIN PERFORM make_as_of('{name}'); END $$;\n"
 
 
 def copied(mark: str, query: str) -> str:

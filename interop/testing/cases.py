@@ -29,13 +29,14 @@ class Table(NamedTuple):
     columns: list[tuple[str, str]]
     rows: list[list[tuple]]
     gone: Any  # a condition of the rows that are deleted, or None
+    changed: Any = None  # the assignments of an UPDATE, as columns and expressions, and its condition, or None
 
 
 class Core(NamedTuple):
-    """A SELECT of items from tables, of which each row fits, with an EXISTS or a NOT EXISTS or none."""
+    """A SELECT of items from tables with their aliases, of which each row fits, with an EXISTS or a NOT EXISTS or none."""
 
     items: list[tuple]
-    tables: list[str]
+    tables: list[tuple[str, str]]
     condition: Any
     semi: Any
 
@@ -67,7 +68,7 @@ class Maker:
         if kind == "INT":
             return ("literal", kind, str(self.random.randint(-1, 2)))
         if kind == "TEXT":
-            return ("literal", kind, self.random.choice(["a", "B", "", "it's, \"so\"", "é\nß", "\\N"]))
+            return ("literal", kind, self.random.choice(["a", "B", "", "it's, \"so\"", "é\nß", "\\N", "a\rb"]))
         if kind == "DATE":
             return ("literal", kind, self.point())
         return ("literal", kind, f"[{self.point()},{self.point()})")
@@ -99,30 +100,38 @@ class Maker:
     def table(self, name: str, count: int = 0) -> Table:
         columns = [(f"{name}_{kind.lower()}", kind) for kind in KINDS]
         rows = [[self.literal(kind) for kind in KINDS] for _ in range(count or self.random.randint(1, 6))]
-        return Table(name, columns, rows, self.condition(columns) if self.random.random() < 0.6 else None)
+        return Table(name, columns, rows, self.condition(columns) if self.random.random() < 0.5 else None,
+                     self.change(columns) if self.random.random() < 0.5 else None)
+
+    def change(self, columns: list[tuple[str, str]]) -> tuple:
+        """The assignments and the condition of an UPDATE."""
+        set_columns = self.random.sample(columns, self.random.randint(1, 3))
+        return [(name, self.expression(kind, columns)) for name, kind in set_columns], self.condition(columns)
 
     def core(self, tables: list[Table], kinds: list[str]) -> Core:
-        chosen = self.random.sample(tables, self.random.randint(1, 2))
-        columns = [column for table in chosen for column in table.columns]
+        """A core of one table, or of two or three, of which some are the same one."""
+        chosen = self.random.choices(tables, k=self.random.choice([1, 1, 2, 2, 2, 3]))
+        aliases = [f"x{number}" for number in range(1, len(chosen) + 1)]
+        columns = [(f"{alias}.{name}", kind) for alias, table in zip(aliases, chosen) for name, kind in table.columns]
         semi = None
-        if self.random.random() < 0.25 and len(chosen) == 1:
-            other = next(table for table in tables if table is not chosen[0])
+        if self.random.random() < 0.5 and len(chosen) == 1:
+            other = self.random.choice([table for table in tables if table is not chosen[0]])
             semi = (self.random.choice(["EXISTS", "NOT EXISTS"]), other.name, self.condition(columns + other.columns))
         items = [self.expression(kind, columns) for kind in kinds]
-        return Core(items, [table.name for table in chosen], self.condition(columns), semi)
+        return Core(items, [(table.name, alias) for table, alias in zip(chosen, aliases)], self.condition(columns), semi)
 
     def case(self) -> Case:
-        tables = [self.table("t"), self.table("u")]
+        tables = [self.table("t"), self.table("u"), self.table("v")]
         kinds = self.random.choices(KINDS, (2, 2, 3, 3), k=self.random.randint(1, 3))
         operators = self.random.choices(["UNION", "EXCEPT", "INTERSECT"], k=self.random.choice([0, 1, 1, 2]))
         cores = [self.core(tables, kinds) for _ in range(len(operators) + 1)]
         return Case(tables, cores, operators, kinds, self.forms)
 
 
-    def numbered(self, name: str) -> Table:
-        """A table of ten rows, whose numbers tell them apart."""
-        table = self.table(name, 10)
-        return table._replace(rows=[[("literal", "INT", str(at)), *row[1:]] for at, row in enumerate(table.rows)], gone=None)
+    def numbered(self, name: str, count: int = 10) -> Table:
+        """A table of ten rows, or of another number, whose numbers tell them apart."""
+        table = self.table(name, count)
+        return table._replace(rows=[[("literal", "INT", str(at)), *row[1:]] for at, row in enumerate(table.rows)], gone=None, changed=None)
 
     def case_of(self, word: str) -> Case:
         """The pairs of ten rows and ten others for which one test holds; or all pairs, with each function of their values."""
@@ -141,16 +150,31 @@ class Maker:
             items += [("START", period), ("END", period), ("LEAST", date, other_date), ("GREATEST", date, other_date),
                       ("COMMON", period, other_period), ("PERIOD", date, other_date)]
             kinds += ["DATE"] * 4 + ["PERIOD"] * 2
-        return Case(tables, [Core(items, ["t", "u"], condition, None)], [], kinds, self.forms)
+        return Case(tables, [Core(items, [("t", "t"), ("u", "u")], condition, None)], [], kinds, self.forms)
 
 
+    def case_of_joined(self, names: str) -> Case:
+        """The tuples of rows of tables of these names, each of which is there from a day on or before it; some are one table."""
+        tables = {name: self.numbered(name, 6) for name in sorted(names)}
+        for table in list(tables.values()):
+            now, day = ("literal", "DATE", "now"), ("column", table.columns[2][0], "DATE")
+            tables[table.name] = table._replace(gone=("compare", self.random.choice(["<", ">="]), now, day, "DATE"))
+        aliases = [(name, f"x{number}") for number, name in enumerate(names, 1)]
+        items = [("column", f"{alias}.{tables[name].columns[0][0]}", "INT") for name, alias in aliases]
+        dates = [("column", f"{alias}.{tables[name].columns[2][0]}", "DATE") for name, alias in aliases]
+        condition = ("compare", "<=", dates[0], dates[-1], "DATE")
+        return Case(list(tables.values()), [Core(items, aliases, condition, None)], [], ["INT"] * len(names), self.forms)
+
+
+JOINED = ("tt", "tut", "tuv", "ttt")
 TESTS = (*PREDICATES, *SIGNS, "EMPTY", "CONTAINS", "functions")
 
 
 def named(count: int, count_far: int) -> tuple[dict[str, Case], dict[str, Case]]:
-    """Each test alone at each place of days, and random cases; and random cases with days that PostgreSQL has not."""
+    """Each test alone and some joins at each place of days, and random cases; and random cases with days that PostgreSQL has not."""
     near = {f"test_{at}_{place}": Maker(word, days).case_of(word)
             for at, word in enumerate(TESTS) for place, days in enumerate(PLACES)}
+    near.update((f"joined_{names}_{place}", Maker(names, days).case_of_joined(names)) for names in JOINED for place, days in enumerate(PLACES))
     near.update((f"case_{number}", Maker(f"{number} False").case()) for number in range(count))
     return near, {f"far_{number}": Maker(f"{number} True", FAR).case() for number in range(count_far)}
 
@@ -176,7 +200,7 @@ def in_ongq(tree: tuple) -> str:
 def core_in_ongq(core: Core) -> str:
     items = ", ".join(f"{in_ongq(item)} AS c{at}" for at, item in enumerate(core.items, 1))
     semi = "" if not core.semi else f" AND {core.semi[0]} (SELECT * FROM {core.semi[1]} WHERE {in_ongq(core.semi[2])})"
-    return f"SELECT {items} FROM {', '.join(core.tables)} WHERE ({in_ongq(core.condition)}){semi}"
+    return f"SELECT {items} FROM {', '.join(map(' '.join, core.tables))} WHERE ({in_ongq(core.condition)}){semi}"
 
 
 def query_in_ongq(case: Case) -> str:
@@ -184,15 +208,29 @@ def query_in_ongq(case: Case) -> str:
 
 
 def script(case: Case) -> str:
-    """The statements that make the tables."""
+    """The statements that make the tables, save them as new.NAME.csv and change them then."""
     lines = []
     for table in case.tables:
         lines.append(f"CREATE TABLE {table.name} ({', '.join(' '.join(column) for column in table.columns)});")
         tuples = ["(" + ", ".join(map(in_ongq, row)) + ")" for row in table.rows]
-        lines.append(f"INSERT INTO {table.name} VALUES {', '.join(tuples)};")
+        lines.append(f"INSERT INTO {table.name} VALUES {', '.join(tuples)};\nSAVE {table.name} TO 'new.{table.name}.csv';")
         if table.gone:
             lines.append(f"DELETE FROM {table.name} WHERE {in_ongq(table.gone)};")
+        if table.changed:
+            given = ", ".join(f"{name} = {in_ongq(expression)}" for name, expression in table.changed[0])
+            lines.append(f"UPDATE {table.name} SET {given} WHERE {in_ongq(table.changed[1])};")
     return "\n".join(lines)
+
+
+def changes_in_sql(table: Table) -> str:
+    """The same changes of a table in PostgreSQL: rows without the days that they lose, and changed rows on these."""
+    made = f"UPDATE {table.name} SET days = days - {in_sql(table.gone)};\n" if table.gone else ""
+    if table.changed:
+        given, condition = dict(table.changed[0]), in_sql(table.changed[1])
+        new = ", ".join(in_sql(given[name]) if name in given else name for name, _ in table.columns)
+        made += (f"WITH old AS (DELETE FROM {table.name} RETURNING *) INSERT INTO {table.name}\n    SELECT {', '.join(name for name, _ in table.columns)}, "
+                 f"days - {condition} FROM old\n    UNION ALL SELECT {new}, days * {condition} FROM old;\n")
+    return made + f"DELETE FROM {table.name} WHERE isempty(days);\n"
 
 
 def compared(sign: str, kind: str, left: str, right: str) -> str:
@@ -231,11 +269,11 @@ def any_days(days: str, rest: str) -> str:
 
 def core_in_sql(core: Core) -> str:
     items = "".join(f"{in_sql(item)} AS c{at}, " for at, item in enumerate(core.items, 1))
-    days = " * ".join([*(f"{table}.days" for table in core.tables), in_sql(core.condition)])
+    days = " * ".join([*(f"{alias}.days" for _, alias in core.tables), in_sql(core.condition)])
     if core.semi:
         found = any_days(f"{core.semi[1]}.days * {in_sql(core.semi[2])}", core.semi[1])
         days = f"({days}) {'*' if core.semi[0] == 'EXISTS' else '-'} {found}"
-    return f"SELECT {items}{days} AS days FROM {', '.join(core.tables)}"
+    return f"SELECT {items}{days} AS days FROM {', '.join(map(' '.join, core.tables))}"
 
 
 def combined(operator: str, left: str, right: str, kinds: list[str]) -> str:
@@ -258,7 +296,8 @@ def query_in_sql(case: Case) -> str:
 
 SET_OPERATORS = ("UNION", "EXCEPT", "INTERSECT", "EXISTS", "NOT EXISTS")
 ALL_WORDS = [f"form {form}" for form in FORMS]
-ALL_WORDS += [f"word {word}" for word in (*SIGNS, *PREDICATES, *FUNCTIONS, *SET_OPERATORS, "NOT", "AND", "OR")]
+ALL_WORDS += [f"word {word}" for word in (*SIGNS, *PREDICATES, *FUNCTIONS, *SET_OPERATORS, "NOT", "AND", "OR", "DELETE", "UPDATE", "self join",
+                                             "three tables")]
 
 
 def words_in(tree: tuple) -> list[str]:
@@ -271,8 +310,12 @@ def words_in(tree: tuple) -> list[str]:
 def words(case: Case) -> list[str]:
     """What occurs in a case, as ALL_WORDS has it."""
     trees = [table.gone for table in case.tables if table.gone]
+    trees += [tree for table in case.tables if table.changed for tree in (table.changed[1], *(given for _, given in table.changed[0]))]
     semis = [core.semi for core in case.cores if core.semi]
     trees += [core.condition for core in case.cores] + [semi[2] for semi in semis]
     trees += [item for core in case.cores for item in core.items]
     found = [word for tree in trees for word in words_in(tree)] + case.operators + [semi[0] for semi in semis]
+    found += ["DELETE" for table in case.tables if table.gone] + ["UPDATE" for table in case.tables if table.changed]
+    found += ["self join" for core in case.cores if len({name for name, _ in core.tables}) < len(core.tables)]
+    found += ["three tables" for core in case.cores if len(core.tables) == 3]
     return [f"form {form}" for form in case.forms] + [f"word {word}" for word in found]

@@ -70,6 +70,22 @@ def try_installcheck(test: Any, postgres: server.Server) -> None:
     test.same("the extension", "make install installcheck", (0, ""), (done.returncode, differences or done.stderr * done.returncode))
 
 
+def try_changed_table(test: Any, postgres: server.Server) -> None:
+    """After a change of the columns the function as of a day stops, until it is made anew."""
+    asked = "SELECT * FROM hits_as_of('2021-02-01') ORDER BY id;"
+    for change, wanted in (("ADD COLUMN note text DEFAULT 'x'", "1|2020-01-01|x"),
+                           ("RENAME COLUMN note TO said", "1|2020-01-01|x"), ("ALTER COLUMN said TYPE varchar(1)", "1|2020-01-01|x"),
+                           ("DROP COLUMN said", "1|2020-01-01")):
+        postgres.ask(f"ALTER TABLE hits {change};", "kept")
+        try:
+            said = postgres.ask(asked, "kept")
+        except AssertionError as why:
+            said = str(why)
+        test.same("the extension", f"as of a day after {change}", True, "no longer" in said or "does not exist" in said)
+        postgres.ask("SET client_min_messages = warning; DO $$ BEGIN PERFORM ongoing.make_as_of('hits'); END $$;", "kept")
+        test.same("the extension", f"made anew after {change}", wanted, postgres.ask(asked, "kept").splitlines()[0])
+
+
 def try_plain_user(test: Any, postgres: server.Server) -> None:
     """Both ways are open to who may make schemas in a database and is no superuser."""
     postgres.ask("CREATE ROLE plain; CREATE DATABASE by_name; CREATE DATABASE by_file; GRANT CREATE ON DATABASE by_name, by_file TO plain;")
@@ -85,5 +101,6 @@ def try_extension(test: Any, postgres: server.Server) -> None:
     postgres.ask("CREATE EXTENSION ongoing;", "kept")
     try_script(test, postgres)
     try_dump(test, postgres)
+    try_changed_table(test, postgres)
     try_plain_user(test, postgres)
     try_installcheck(test, postgres)

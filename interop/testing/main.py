@@ -25,7 +25,7 @@ import server  # noqa: E402
 import texts  # noqa: E402
 from answers import ongq  # noqa: E402
 
-CASES, FAR_CASES, AT_ONCE = 300, 30, 26
+CASES, FAR_CASES, AT_ONCE, VIEWS = 300, 30, 26, 8
 FIRST = ongq.read_day(answers.FIRST_OF_POSTGRES)
 PREPARED = "SET client_min_messages = warning;\nSET search_path = public, ongoing;\n"
 
@@ -73,13 +73,13 @@ class Asked:
     def python(self) -> None:
         self.test.same_answers("Python's rows", self.name, self.printed, answers.of_python(self.file, list(self.printed)))
 
-    def script(self, query: str = "", has_last: bool = False) -> str:
-        """The script for psql: the file as a table r_NAME, and where there is a query its answer as q_NAME."""
+    def script(self, query: str = "", has_last: bool = False, as_view: bool = False) -> str:
+        """The script for psql: the file as a table r_NAME, and where there is a query its answer as q_NAME, or a view of it."""
         columns, kinds = answers.load.names(self.saved.columns), [column.kind for column in self.saved.columns]
         made = answers.table(self.file, f"r_{self.name}")
         made += answers.asked(f"r_{self.name}", columns, kinds, self.days) + answers.kept_asked(f"r_{self.name}", columns)
         if query:
-            made += answers.query_table(f"q_{self.name}", query) + answers.asked(f"q_{self.name}", columns, kinds, self.days)
+            made += answers.query_table(f"q_{self.name}", query, as_view) + answers.asked(f"q_{self.name}", columns, kinds, self.days)
         if has_last:
             made += answers.last_asked(f"r_{self.name}") + answers.last_asked(f"q_{self.name}")
         self.in_postgres, self.has_query, self.has_last = True, query != "", has_last
@@ -124,8 +124,7 @@ def compare(test: Test, asked: list[Asked], script: str) -> None:
 
 def make_case(test: Test, name: str, case: cases.Case, days: list[str], version: int) -> Asked:
     """Lets ongq make the tables of a case and its result NAME.csv, of version 1 or 2, and print it as of the days."""
-    saves = "".join(f"SAVE {table.name} TO '{table.name}.csv';\n" for table in case.tables)
-    output = answers.run(test.program, test.folder, f"{answers.MARK}{cases.script(case)}\n{saves}"
+    output = answers.run(test.program, test.folder, f"{answers.MARK}{cases.script(case)}\n"
                          f"KEEP r AS {cases.query_in_ongq(case)};\nSAVE r TO '{name}.csv';\n{answers.prints('r', days)}")
     asked = Asked(test, name, f"{name}.csv", answers.printed(output, days))
     if version == 2:
@@ -147,10 +146,18 @@ def script_of(test: Test, asked: Asked, case: cases.Case, far: bool) -> str:
             made, refused = "", True
         test.same("a date before PostgreSQL's first is refused", asked.name, asked.has_far_values(), refused)
         return made
-    names = [table.name for table in case.tables]
-    tables = [f"DROP TABLE IF EXISTS {name};\n{answers.table(test.file(f'{name}.csv'), name)}" for name in names]
+    made = f"CREATE SCHEMA {asked.name};\nSET search_path = {asked.name}, public, ongoing;\n"
+    for table in case.tables:
+        made += answers.table(test.file(f"new.{table.name}.csv"), table.name) + cases.changes_in_sql(table)
     has_last = "9999-12-31" not in cases.script(case) + cases.query_in_ongq(case)
-    return "".join(tables) + asked.script(cases.query_in_sql(case), has_last)
+    as_view = chance_of(asked.name, VIEWS)
+    test.compared["word view"] += as_view
+    return made + asked.script(cases.query_in_sql(case), has_last, as_view)
+
+
+def chance_of(name: str, part: int) -> bool:
+    """True for about one name of each `part`, the same each time."""
+    return random.Random(name).randrange(part) == 0
 
 
 def try_cases(test: Test, named: dict[str, cases.Case], far: bool) -> None:
@@ -171,7 +178,7 @@ def try_all_cases(test: Test) -> None:
     for start in range(0, len(near), AT_ONCE):
         try_cases(test, dict(list(near.items())[start:start + AT_ONCE]), False)
     try_cases(test, far, True)
-    for word in cases.ALL_WORDS + ["version 1", "version 2"]:
+    for word in cases.ALL_WORDS + ["version 1", "version 2", *(["word view"] if test.postgres else [])]:
         test.same("words that occur", word, True, test.compared[word] >= 5)
 
 
@@ -282,6 +289,7 @@ def try_all(test: Test, browser: Optional[str]) -> None:
         extension.try_extension(test, test.postgres)
         exchange.try_exchange(test, test.postgres)
         texts.try_functions(test)
+        texts.try_ranges(test)
     texts.try_texts(test)
     try_examples(test)
     try_all_cases(test)

@@ -168,6 +168,52 @@ def try_shapes(test: Any, path: str) -> None:
                 test.same("shapes", f"{row.label} of {path}, as of {day}", [tuple(span)] if span.start < span.end else [], shown_on(shapes, day))
 
 
+def try_points(test: Any, path: str) -> None:
+    """The parts of a date say on each day whether it moves on the next one, or stays, also where it moves for ever."""
+    for row, _ in ongq.read(path).entries:
+        for point in (value for value in row if isinstance(value, ongq.Point)):
+            parts = drawing.parts_of(point)
+            near = {day + step for end in point for day in (end, 20000) for step in (-9, -1, 0, 1, 9)} | {ongq.FIRST, ongq.LAST - 1}
+            for day in (ongq.Day(day) for day in sorted(near) if ongq.FIRST <= day < ongq.LAST):
+                moves = point.at(day) != point.at(ongq.Day(day + 1))
+                wanted = (moves, not moves and point.low == point.high == day)
+                found = tuple(any(part.sort == sort and part.low <= day < part.high for part in parts) for sort in ("moves", "stays"))
+                test.same("points", f"{point} of {path}, as of {day}", wanted, found)
+
+
+def try_moves(test: Any, path: str) -> None:
+    """In the drawing the line of a date that moves goes from where it begins to where it stops, or to the edge."""
+    saved, tree = ongq.read(path), xml.etree.ElementTree.fromstring(draw(path))
+    over, left = drawing.window(saved.entries, None, None, 720), 0.0
+    for node in tree.iter("{http://www.w3.org/2000/svg}rect"):
+        if node.get("class") == "there" and node.get("width") == "720.0":  # a row that is there on all days
+            left = float(node.get("x", ""))
+    wanted = []
+    for row, _ in sorted(saved.entries):
+        for point in (value for value in row if isinstance(value, ongq.Point)):
+            if point.low < point.high and point.low < over.high and point.high > over.low:
+                ends = [(min(max(day, over.low), over.high) - over.low) * 720 / (over.high - over.low) for day in point]
+                wanted.append(tuple(f"{left + end:.1f}" for end in ends))
+    drawn = re.findall('class="moves" d="M([0-9.]+) [0-9.]+H([0-9.]+)"', draw(path).split('class="name"', 1)[1].rsplit("</g>", 1)[0])
+    test.same("points", f"the lines of {path}", wanted, drawn)
+
+
+def try_text(test: Any, path: str) -> None:
+    """In characters a lane has its sign in just the columns that have a day of the row, in each of its ranges."""
+    saved, lines = ongq.read(path), iter(draw(path, "--text").splitlines()[3:])
+    all_lanes = drawing.lanes(saved)
+    room = drawing.widest([drawing.names_said(saved), *drawing.labels_of(all_lanes)], 50)
+    over = drawing.window(saved.entries, None, None, max(20, 98 - room))
+    for lane in all_lanes:
+        label = drawing.short(lane.label, room)
+        head = label + " " * (room + 1 - drawing.places_of(label))
+        line = next(line for line in lines if not line.startswith("  ") and line.startswith(head.rstrip()))
+        ranges = [(max(low, over.low), min(high, over.high)) for low, high in lane.days if low < over.high and high > over.low]
+        wanted = {column for ends in ranges for column in range(*(int((day - over.low) * over.width / (over.high - over.low)) + add
+                                                                  for day, add in ((ends[0], 0), (ends[1] - 1, 1))))}
+        test.same("lanes as text", f"{label} of {path}", wanted, {at for at, sign in enumerate(line[len(head):]) if sign == "-"})
+
+
 def try_drawing(test: Any, path: str) -> None:
     """A lane for each row; the same bytes each time; a name, plain words and colours for a dark reader; no date or period cut."""
     saved, drawn, asked, text = ongq.read(path), draw(path), draw(path, "--asked"), draw(path, "--text")
@@ -190,6 +236,9 @@ def try_drawings(test: Any) -> None:
     for path in files(test):
         try_drawing(test, path)
         try_shapes(test, path)
+        try_points(test, path)
+        try_text(test, path)
+    try_moves(test, test.file("all_forms.csv"))
     titled = draw(test.file("all_forms.csv"), "--title", "<Forms> & more")
     test.same("drawings", "a title that is asked for", "<Forms> & more", xml.etree.ElementTree.fromstring(titled)[0].text)
 

@@ -5,6 +5,7 @@ import subprocess
 from typing import Any
 
 import answers
+import cases
 from answers import ongq
 
 DAY = "2020-01-01"
@@ -48,6 +49,29 @@ def try_texts(test: Any) -> None:
         test.same("texts", f"{kind} of Python", dict(zip(texts, wanted)), {text: of_python(read, text) for text in texts})
         if test.postgres:
             test.same("texts", f"{kind} of PostgreSQL", dict(zip(texts, wanted)), dict(zip(texts, of_postgres(test, function, texts))))
+
+
+RANGES = {"[2023-05-01,)": "[2023-05-01,infinity)", "(,2023-05-01)": "[-infinity,2023-05-01)", "(,)": "[-infinity,infinity)", "empty": "[infinity,-infinity)",
+          "[2023-05-01,infinity)": "[2023-05-01,infinity)", "[-infinity,2023-05-01)": "[-infinity,2023-05-01)", "[2023-05-01,2023-05-31]": "[2023-05-01,2023-06-01)"}
+OTHERS = ("[2023-04-01,now)", "[2023-05-15,2023-06-15)", "[now,2023-05-01)", "[2023-05-01,infinity)", "[2024-01-01,2023-01-01)")
+
+
+def try_ranges(test: Any) -> None:
+    """A daterange is the period that ongq has for it, also beside another period: each predicate holds on the same days."""
+    found = test.postgres.ask(f"""SET search_path = public, ongoing;
+        SELECT (r::daterange)::ongoing_period::text FROM (VALUES {", ".join(f"('{text}')" for text in RANGES)}) AS given(r);""")
+    test.same("dateranges", "as periods", RANGES, dict(zip(RANGES, found.splitlines())))
+    for name in cases.PREDICATES:
+        script = "CREATE TABLE a (n INT, a PERIOD); CREATE TABLE b (m INT, b PERIOD);\n"
+        for table, texts in (("a", RANGES.values()), ("b", OTHERS)):
+            script += "".join(f"INSERT INTO {table} VALUES ({at}, PERIOD '{text}');\n" for at, text in enumerate(texts))
+        answers.run(test.program, test.folder, script + f"KEEP r AS SELECT n, m FROM a, b WHERE a {name} b; SAVE r TO 'ranges.csv';")
+        wanted = sorted([str(n), str(m), str(days)] for (n, m), days in ongq.read(test.file("ranges.csv")).entries)
+        ranges, others = (", ".join(f"({at}, '{text}')" for at, text in enumerate(texts)) for texts in (RANGES, OTHERS))
+        found = test.postgres.ask(f"""SET search_path = public, ongoing;
+            WITH pairs AS (SELECT n, m, {name.lower()}(a::daterange, b::text) AS days FROM (VALUES {ranges}) AS a(n, a), (VALUES {others}) AS b(m, b))
+            SELECT n, m, CASE show(days) WHEN '*' THEN '{ongq.ALL_DAYS}' ELSE show(days) END FROM pairs WHERE NOT isempty(days);""")
+        test.same("dateranges", name, wanted, sorted(line.split("|") for line in found.splitlines()))
 
 
 def try_functions(test: Any) -> None:
