@@ -7,6 +7,7 @@ and the like; ("compare", sign, e, f), ("predicate", name, e, f), ("EMPTY", e), 
 from __future__ import annotations
 
 import random
+import re
 from typing import Any, NamedTuple
 
 KINDS = ("INT", "TEXT", "DATE", "PERIOD")
@@ -238,7 +239,14 @@ def compared(sign: str, kind: str, left: str, right: str) -> str:
     if kind != "DATE":
         return f"ongoing.days({left} {sign} {right})"
     name = {"=": "same", "<>": "differs", "<": "less", ">": "less", "<=": "at_most", ">=": "at_most"}[sign]
+    left, right = bare(left, right)
     return f"{name}({right}, {left})" if sign in (">", ">=") else f"{name}({left}, {right})"
+
+
+def bare(left: str, right: str) -> list[str]:
+    """Two points or periods for a function, of which the one that is a literal stands there by its text alone, if the other is none."""
+    literals = [re.fullmatch("read_(?:point|period)\\(('[^']*')\\)", part) for part in (left, right)]
+    return [left, right] if all(literals) else [found[1] if found else part for found, part in zip(literals, (left, right))]
 
 
 def in_sql(tree: tuple) -> str:
@@ -254,12 +262,13 @@ def in_sql(tree: tuple) -> str:
     if word == "compare":
         return compared(parts[0], parts[3], in_sql(parts[1]), in_sql(parts[2]))
     if word == "predicate":
-        return f"{parts[0].lower()}({in_sql(parts[1])}, {in_sql(parts[2])})"
+        return f"{parts[0].lower()}({', '.join(bare(in_sql(parts[1]), in_sql(parts[2])))})"
     if word == "NOT":
         return f"other_days({in_sql(parts[0])})"
     if word in ("AND", "OR"):
         return f"({in_sql(parts[0])} {'*' if word == 'AND' else '+'} {in_sql(parts[1])})"
-    return f"{FUNCTIONS[word]}({', '.join(map(in_sql, parts))})"
+    given = list(map(in_sql, parts))
+    return f"{FUNCTIONS[word]}({', '.join(bare(*given) if len(given) == 2 else given)})"
 
 
 def any_days(days: str, rest: str) -> str:

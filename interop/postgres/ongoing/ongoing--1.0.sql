@@ -23,10 +23,10 @@
 -- | START, END, PERIOD           | start_of(A), end_of(A), period(p, q)                    |
 -- | COMMON                       | A * B, or common(A, B)                                  |
 -- | LEAST, GREATEST              | ongoing.least(p, q), ongoing.greatest(p, q)             |
--- | ONGOING '..', PERIOD '..'    | read_point('..'), read_period('..'), or text '..'       |
+-- | ONGOING '..', PERIOD '..'    | text '..', or alone in a function of two: meets(A, '..')|
 --
--- A date is a point and a daterange a period wherever one is wanted, and so is a value of type text, but no literal whose
--- type PostgreSQL has to guess. Without its schema LEAST is PostgreSQL's own, which takes rows by their first column. A set
+-- A date is a point and a daterange a period wherever one is wanted, and so is a value of type text. A literal alone is one
+-- in functions of two, and nowhere else: PostgreSQL reads it as a row. Without its schema LEAST is PostgreSQL's own, which takes rows by their first column. A set
 -- of days has no bound where it is open, and {(,)} is all days. Before the first day of PostgreSQL, 4714-11-24 BC, a set
 -- has no bounds, and a date is refused. All functions but those at the end, on tables, are immutable and parallel safe; NULL
 -- gives NULL, or a row of NULLs, which is NULL. Most are put into the query that asks them; outer is not, so that a server
@@ -380,6 +380,27 @@ CREATE CAST (period_ends AS text) WITH FUNCTION show(period_ends) AS ASSIGNMENT;
 COMMENT ON CAST (period_ends AS text) IS 'the period text of a period';
 CREATE CAST (span AS text) WITH FUNCTION show(span) AS ASSIGNMENT;
 COMMENT ON CAST (span AS text) IS 'the text of a period as it is on a day';
+
+-- A literal beside a point or a period is a text for PostgreSQL where a function takes one there. So each function of two takes
+-- a text for either, and of two texts where no other of its name does.
+DO $$
+DECLARE
+    two record;
+    texts text[];
+BEGIN
+    FOR two IN SELECT proname AS name, proargtypes[0]::regtype AS first, proargtypes[1]::regtype AS second, prorettype::regtype AS result,
+            count(*) OVER (PARTITION BY proname) = 1 AS is_alone
+        FROM pg_proc WHERE pronamespace = 'ongoing'::regnamespace AND pronargs = 2
+            AND proargtypes[0] IN ('point_ends'::regtype, 'period_ends'::regtype) AND proargtypes[1] IN ('point_ends'::regtype, 'period_ends'::regtype)
+    LOOP
+        FOREACH texts SLICE 1 IN ARRAY ARRAY[[two.first::text, 'text'], ['text', two.second::text], ['text', 'text']] LOOP
+            CONTINUE WHEN texts = ARRAY['text', 'text'] AND NOT two.is_alone;
+            EXECUTE format('CREATE FUNCTION %I(a %s, b %s) RETURNS %s IMMUTABLE PARALLEL SAFE RETURN %1$I(a::%5$s, b::%6$s)',
+                two.name, texts[1], texts[2], two.result, two.first, two.second);
+            EXECUTE format('COMMENT ON FUNCTION %I(%s, %s) IS %L', two.name, texts[1], texts[2], 'the same, with what a text says');
+        END LOOP;
+    END LOOP;
+END $$;
 
 
 -- Operators. They are of the exact types, so that none of them means PostgreSQL's order of records.

@@ -20,7 +20,7 @@ CREATE FUNCTION column_of(type regtype, number bigint) RETURNS text LANGUAGE sql
 SELECT f.oid::regprocedure
 FROM pg_proc f, LATERAL (SELECT string_agg(column_of(type, number), ', ' ORDER BY number) AS given, bool_and(column_of(type, number) IS NOT NULL) AS fits
     FROM unnest(f.proargtypes) WITH ORDINALITY AS of(type, number)) AS arguments
-WHERE pronamespace = 'ongoing'::regnamespace AND fits
+WHERE pronamespace = 'ongoing'::regnamespace AND fits AND (pronargs = 1 OR given !~ '\mt\M' OR proname = 'show')
     AND plan_of(format('SELECT ongoing.%I(%s) FROM public.made', proname, given)) LIKE format('%%ongoing.%I(%%', proname)
 ORDER BY 1::text COLLATE "C";
 
@@ -29,7 +29,9 @@ SELECT plan_of('SELECT days * ongoing.at_most(ongoing.start_of(ongoing.common(v,
     ongoing.period(ongoing.start_of(v), ongoing.least(ongoing.end_of(v), p)) FROM public.made') ~ 'ongoing\.[a-z_]+\(' AS is_called;
 SELECT plan_of('SELECT v OPERATOR(ongoing.&&) w, v OPERATOR(ongoing.@>) p, p OPERATOR(ongoing.<) q FROM public.made') ~ 'ongoing\.[a-z_]+\(' AS is_called;
 
--- Literals are read once, before the query runs.
+-- Literals are read once, before the query runs, also where they stand alone.
+SELECT plan_of($$SELECT ongoing.overlaps(v, '[2020-01-01,now)'), ongoing.less('2020-01-01', p), ongoing.contains(v, '+2020-01-01') FROM public.made$$)
+    ~ 'ongoing\.[a-z_]+\(' AS is_called;
 SELECT plan_of($$SELECT ongoing.read_period('[2020-01-01,now)') FROM public.made$$);
 
 -- An index on the outer ranges is asked.

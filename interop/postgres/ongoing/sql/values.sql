@@ -7,6 +7,11 @@ INSERT INTO jobs VALUES ('Ines', date '2000-02-29', text '[2023-05-01,now)'), ('
 SELECT name, born::text, works::text, at(born, '2026-03-01') AS born_then, at(works, '2026-03-01')::text AS works_then FROM jobs ORDER BY name;
 SELECT name, outer(works), start_of(works)::text, end_of(works)::text, common(works, daterange '[2023-01-01,2024-01-15)')::text FROM jobs ORDER BY name;
 
+-- A literal beside a point or a period is what its text says.
+SELECT name, overlaps(works, '[2023-01-01,now)'), contains('[2023-01-01,now)', born), at_most(born, '2001-01-01'), common('[2023-01-01,2024-01-15)', works)::text
+FROM jobs ORDER BY name;
+SELECT period('2020-01-01', 'now')::text, overlaps('[2020-01-01,now)', '[2020-01-05,infinity)'), period('2020-01-01', read_point('+2021-01-01'))::text;
+
 -- A daterange without an end has infinity there, and one without days is empty on each day.
 SELECT text '[2023-05-01,infinity)' = daterange '[2023-05-01,)', daterange '(,2023-05-01)'::ongoing_period::text,
     daterange '(,)'::ongoing_period::text, daterange 'empty'::ongoing_period::text, empty(daterange 'empty'), outer(daterange 'empty');
