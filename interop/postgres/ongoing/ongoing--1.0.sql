@@ -26,20 +26,22 @@
 -- | ONGOING '..', PERIOD '..'    | text '..', or alone in a function of two: meets(A, '..')|
 --
 -- A date is a point and a daterange a period wherever one is wanted, and so is a value of type text. A literal alone is one
--- in functions of two, and nowhere else: PostgreSQL reads it as a row. Without its schema LEAST is PostgreSQL's own, which takes rows by their first column. A set
--- of days has no bound where it is open, and {(,)} is all days. Before the first day of PostgreSQL, 4714-11-24 BC, a set
--- has no bounds, and a date is refused. All functions but those at the end, on tables, are immutable and parallel safe; NULL
--- gives NULL, or a row of NULLs, which is NULL. Most are put into the query that asks them; outer is not, so that a server
--- of postgres_fdw with the option extensions 'ongoing' is asked it.
+-- in functions of two, and nowhere else, as PostgreSQL reads it as a row. Without its schema LEAST is PostgreSQL's own, which
+-- takes rows by their first column. A set of days has no bound where it is open, and {(,)} is all days. Before the first day
+-- of PostgreSQL, 4714-11-24 BC, a set has no bounds, and a date is refused. All functions but those at the end, on tables,
+-- are immutable and parallel safe; NULL gives NULL, or a row of NULLs, which is NULL. Most are put into the query that asks
+-- them; outer is not, so that a server of postgres_fdw with the option extensions 'ongoing' is asked it.
 
 
 -- Types. Columns are made of the domains, which refuse what is no point or period; functions take and give the ends.
 
 CREATE TYPE point_ends AS (low date, high date);
-COMMENT ON TYPE point_ends IS 'the ends of a point: low up to that day, then the day that is asked, and high from that day on';
+COMMENT ON TYPE point_ends IS
+    'the ends of a point: low up to that day, then the day that is asked, and high from that day on';
 
 CREATE TYPE period_ends AS (start_low date, start_high date, end_low date, end_high date);
-COMMENT ON TYPE period_ends IS 'the ends of a period, whose start is start_low+start_high and whose end is end_low+end_high';
+COMMENT ON TYPE period_ends IS
+    'the ends of a period, whose start is start_low+start_high and whose end is end_low+end_high';
 
 CREATE DOMAIN ongoing_point AS point_ends
     CONSTRAINT low_is_at_most_high CHECK (coalesce((VALUE).low <= (VALUE).high, VALUE IS NULL));
@@ -50,7 +52,8 @@ CREATE DOMAIN ongoing_period AS period_ends CONSTRAINT low_is_at_most_high
 COMMENT ON DOMAIN ongoing_period IS 'a period, of whose start and end the low end is at most the high end';
 
 CREATE TYPE span AS (first date, until date);
-COMMENT ON TYPE span IS 'a period as it is on a day, empty where its end is not after its start; ordered by start, then by end';
+COMMENT ON TYPE span IS
+    'a period as it is on a day, empty where its end is not after its start; ordered by start, then by end';
 
 
 -- Values. They are rows without a condition on top, so that PostgreSQL puts them into the query and makes no row where an end
@@ -89,12 +92,14 @@ RETURN ROW(p.end_low, p.end_high)::point_ends;
 COMMENT ON FUNCTION end_of(period_ends) IS 'the end of a period, the day after its last';
 
 CREATE FUNCTION period(first point_ends, until point_ends) RETURNS period_ends IMMUTABLE PARALLEL SAFE
-RETURN ROW(beside(first.low, until.low), beside(first.high, until.low), beside(until.low, first.low), beside(until.high, first.low))::period_ends;
+RETURN ROW(beside(first.low, until.low), beside(first.high, until.low),
+    beside(until.low, first.low), beside(until.high, first.low))::period_ends;
 COMMENT ON FUNCTION period(point_ends, point_ends) IS 'the period from a start to before an end';
 
 CREATE FUNCTION fixed(days daterange) RETURNS period_ends IMMUTABLE PARALLEL SAFE
 RETURN ROW(first_of(days), first_of(days), until_of(days), until_of(days))::period_ends;
-COMMENT ON FUNCTION fixed(daterange) IS 'the same period on each day; one without days where the range is empty, since that has no ends';
+COMMENT ON FUNCTION fixed(daterange) IS
+    'the same period on each day; one without days where the range is empty, since that has no ends';
 
 CREATE FUNCTION "least"(p point_ends, q point_ends) RETURNS point_ends IMMUTABLE PARALLEL SAFE
 RETURN ROW(earlier(p.low, q.low), earlier(p.high, q.high))::point_ends;
@@ -107,15 +112,18 @@ COMMENT ON FUNCTION "greatest"(point_ends, point_ends) IS 'the point that is the
 CREATE FUNCTION common(p period_ends, q period_ends) RETURNS period_ends IMMUTABLE PARALLEL SAFE
 RETURN ROW(later(p.start_low, q.start_low), later(p.start_high, q.start_high),
     earlier(p.end_low, q.end_low), earlier(p.end_high, q.end_high))::period_ends;
-COMMENT ON FUNCTION common(period_ends, period_ends) IS 'the days that two periods share: from the later start to the earlier end';
+COMMENT ON FUNCTION common(period_ends, period_ends) IS
+    'the days that two periods share: from the later start to the earlier end';
 
 -- PL/pgSQL is not put into the query: an index on it is asked by its name, on this server and on others.
 CREATE FUNCTION outer(p period_ends) RETURNS daterange IMMUTABLE STRICT PARALLEL SAFE LANGUAGE plpgsql AS $$
 BEGIN
     RETURN CASE WHEN p.start_low < p.end_high
-        THEN daterange(nullif(p.start_low, '-infinity'), nullif(p.end_high, 'infinity')) WHEN p.start_low >= p.end_high THEN 'empty' END;
+        THEN daterange(nullif(p.start_low, '-infinity'), nullif(p.end_high, 'infinity'))
+        WHEN p.start_low >= p.end_high THEN 'empty' END;
 END $$;
-COMMENT ON FUNCTION outer(period_ends) IS 'a range with all days that the period has on any day; of two periods that overlap on a day these ranges do';
+COMMENT ON FUNCTION outer(period_ends) IS
+    'a range with all days that the period has on any day; of two periods that overlap on a day these ranges do';
 
 
 -- Values as of a day.
@@ -192,7 +200,8 @@ COMMENT ON FUNCTION at_least(point_ends, point_ends) IS 'the days on which a poi
 
 CREATE FUNCTION same(p period_ends, q period_ends) RETURNS datemultirange IMMUTABLE PARALLEL SAFE
 RETURN same(p.start_low, p.start_high, q.start_low, q.start_high) * same(p.end_low, p.end_high, q.end_low, q.end_high);
-COMMENT ON FUNCTION same(period_ends, period_ends) IS 'the days on which two periods have the same ends, so that they print the same, as EXCEPT and INTERSECT ask it';
+COMMENT ON FUNCTION same(period_ends, period_ends) IS
+    'the days on which two periods have the same ends, so that they print the same, as EXCEPT and INTERSECT ask it';
 
 CREATE FUNCTION differs(p period_ends, q period_ends) RETURNS datemultirange IMMUTABLE PARALLEL SAFE
 RETURN other_days(same(p, q));
@@ -201,19 +210,23 @@ COMMENT ON FUNCTION differs(period_ends, period_ends) IS 'the days on which two 
 CREATE FUNCTION less(p period_ends, q period_ends) RETURNS datemultirange IMMUTABLE PARALLEL SAFE
 RETURN less(p.start_low, p.start_high, q.start_low, q.start_high)
     + same(p.start_low, p.start_high, q.start_low, q.start_high) * less(p.end_low, p.end_high, q.end_low, q.end_high);
-COMMENT ON FUNCTION less(period_ends, period_ends) IS 'the days on which a period stands before another in the order of rows: by start, then by end';
+COMMENT ON FUNCTION less(period_ends, period_ends) IS
+    'the days on which a period stands before another in the order of rows: by start, then by end';
 
 CREATE FUNCTION at_most(p period_ends, q period_ends) RETURNS datemultirange IMMUTABLE PARALLEL SAFE
 RETURN other_days(less(q, p));
-COMMENT ON FUNCTION at_most(period_ends, period_ends) IS 'the days on which a period does not stand behind another in the order of rows';
+COMMENT ON FUNCTION at_most(period_ends, period_ends) IS
+    'the days on which a period does not stand behind another in the order of rows';
 
 CREATE FUNCTION more(p period_ends, q period_ends) RETURNS datemultirange IMMUTABLE PARALLEL SAFE
 RETURN less(q, p);
-COMMENT ON FUNCTION more(period_ends, period_ends) IS 'the days on which a period stands behind another in the order of rows';
+COMMENT ON FUNCTION more(period_ends, period_ends) IS
+    'the days on which a period stands behind another in the order of rows';
 
 CREATE FUNCTION at_least(p period_ends, q period_ends) RETURNS datemultirange IMMUTABLE PARALLEL SAFE
 RETURN at_most(q, p);
-COMMENT ON FUNCTION at_least(period_ends, period_ends) IS 'the days on which a period does not stand before another in the order of rows';
+COMMENT ON FUNCTION at_least(period_ends, period_ends) IS
+    'the days on which a period does not stand before another in the order of rows';
 
 CREATE FUNCTION empty(p period_ends) RETURNS datemultirange IMMUTABLE PARALLEL SAFE
 RETURN at_most(p.end_low, p.end_high, p.start_low, p.start_high);
@@ -225,7 +238,8 @@ COMMENT ON FUNCTION nonempty(period_ends) IS 'the days on which a period is not 
 
 CREATE FUNCTION contains(p period_ends, q point_ends) RETURNS datemultirange IMMUTABLE PARALLEL SAFE
 RETURN at_most(p.start_low, p.start_high, q.low, q.high) * less(q.low, q.high, p.end_low, p.end_high);
-COMMENT ON FUNCTION contains(period_ends, point_ends) IS 'the days on which a period has a day, from its start on, up to the day before its end';
+COMMENT ON FUNCTION contains(period_ends, point_ends) IS
+    'the days on which a period has a day, from its start on, up to the day before its end';
 
 CREATE FUNCTION within(q point_ends, p period_ends) RETURNS datemultirange IMMUTABLE PARALLEL SAFE
 RETURN contains(p, q);
@@ -281,7 +295,8 @@ COMMENT ON FUNCTION equals(period_ends, period_ends) IS 'the days on which two p
 
 CREATE FUNCTION refuse(message text) RETURNS text IMMUTABLE STRICT PARALLEL SAFE LANGUAGE plpgsql
 AS $$ BEGIN RAISE EXCEPTION USING MESSAGE = message, ERRCODE = 'data_exception'; END $$;
-COMMENT ON FUNCTION refuse(text) IS 'stops with the message; its argument is never known before the query runs, so that it stops only where it is met';
+COMMENT ON FUNCTION refuse(text) IS
+    'stops with the message; its argument is never known before the query runs, so that it stops only where it is met';
 
 -- There is a year 0 in ongq, which is 1 BC, and none in PostgreSQL.
 
@@ -312,7 +327,8 @@ COMMENT ON FUNCTION read_period(text) IS 'the period of a period text';
 CREATE FUNCTION read_end(t text) RETURNS date IMMUTABLE STRICT PARALLEL SAFE
 RETURN CASE WHEN t ~ '^-00[0-9]{4}-' AND (substr(t, 4, 4) > '4713' OR substr(t, 4, 4) = '4713' AND right(t, 5) <= '11-24')
     THEN '-infinity' ELSE read_day(t) END;
-COMMENT ON FUNCTION read_end(text) IS 'the end of a range in a set text; -infinity up to PostgreSQL''s first day, before which there is none';
+COMMENT ON FUNCTION read_end(text) IS
+    'the end of a range in a set text; -infinity up to PostgreSQL''s first day, before which there is none';
 
 CREATE FUNCTION read_days(t text) RETURNS datemultirange IMMUTABLE STRICT PARALLEL SAFE
 RETURN CASE WHEN t = '*' THEN '{(,)}'::datemultirange
@@ -353,7 +369,8 @@ RETURN CASE WHEN days @> '{(,10000-01-01)}'::datemultirange THEN '*' ELSE
             || CASE WHEN upper(one) < '10000-01-01' THEN show(upper(one)) ELSE 'infinity' END || ')',
             ',' ORDER BY lower(one) NULLS FIRST), '') || '}'
     FROM unnest(days * '{(,10000-01-01)}'::datemultirange) AS one) END;
-COMMENT ON FUNCTION show(datemultirange) IS 'the set text of a set of days, up to the last day of ongq; * for all of them';
+COMMENT ON FUNCTION show(datemultirange) IS
+    'the set text of a set of days, up to the last day of ongq; * for all of them';
 
 CREATE FUNCTION show(n bigint) RETURNS text IMMUTABLE STRICT PARALLEL SAFE
 RETURN n::text;
@@ -388,10 +405,11 @@ DECLARE
     two record;
     texts text[];
 BEGIN
-    FOR two IN SELECT proname AS name, proargtypes[0]::regtype AS first, proargtypes[1]::regtype AS second, prorettype::regtype AS result,
-            count(*) OVER (PARTITION BY proname) = 1 AS is_alone
+    FOR two IN SELECT proname AS name, proargtypes[0]::regtype AS first, proargtypes[1]::regtype AS second,
+            prorettype::regtype AS result, count(*) OVER (PARTITION BY proname) = 1 AS is_alone
         FROM pg_proc WHERE pronamespace = 'ongoing'::regnamespace AND pronargs = 2
-            AND proargtypes[0] IN ('point_ends'::regtype, 'period_ends'::regtype) AND proargtypes[1] IN ('point_ends'::regtype, 'period_ends'::regtype)
+            AND proargtypes[0] IN ('point_ends'::regtype, 'period_ends'::regtype)
+            AND proargtypes[1] IN ('point_ends'::regtype, 'period_ends'::regtype)
     LOOP
         FOREACH texts SLICE 1 IN ARRAY ARRAY[[two.first::text, 'text'], ['text', two.second::text], ['text', 'text']] LOOP
             CONTINUE WHEN texts = ARRAY['text', 'text'] AND NOT two.is_alone;
@@ -418,17 +436,21 @@ COMMENT ON OPERATOR >= (point_ends, point_ends) IS 'the days on which of two poi
 CREATE OPERATOR > (FUNCTION = more, LEFTARG = point_ends, RIGHTARG = point_ends, COMMUTATOR = <);
 COMMENT ON OPERATOR > (point_ends, point_ends) IS 'the days on which of two points the left is behind the right';
 CREATE OPERATOR < (FUNCTION = less, LEFTARG = period_ends, RIGHTARG = period_ends, COMMUTATOR = >);
-COMMENT ON OPERATOR < (period_ends, period_ends) IS 'the days on which of two periods the left is before the right in the order of rows';
+COMMENT ON OPERATOR < (period_ends, period_ends) IS
+    'the days on which of two periods the left is before the right in the order of rows';
 CREATE OPERATOR <= (FUNCTION = at_most, LEFTARG = period_ends, RIGHTARG = period_ends, COMMUTATOR = >=);
-COMMENT ON OPERATOR <= (period_ends, period_ends) IS 'the days on which of two periods the left is not behind the right in the order of rows';
+COMMENT ON OPERATOR <= (period_ends, period_ends) IS
+    'the days on which of two periods the left is not behind the right in the order of rows';
 CREATE OPERATOR = (FUNCTION = same, LEFTARG = period_ends, RIGHTARG = period_ends, COMMUTATOR = =);
 COMMENT ON OPERATOR = (period_ends, period_ends) IS 'the days on which of two periods both are the same';
 CREATE OPERATOR <> (FUNCTION = differs, LEFTARG = period_ends, RIGHTARG = period_ends, COMMUTATOR = <>);
 COMMENT ON OPERATOR <> (period_ends, period_ends) IS 'the days on which of two periods both are not the same';
 CREATE OPERATOR >= (FUNCTION = at_least, LEFTARG = period_ends, RIGHTARG = period_ends, COMMUTATOR = <=);
-COMMENT ON OPERATOR >= (period_ends, period_ends) IS 'the days on which of two periods the left is not before the right in the order of rows';
+COMMENT ON OPERATOR >= (period_ends, period_ends) IS
+    'the days on which of two periods the left is not before the right in the order of rows';
 CREATE OPERATOR > (FUNCTION = more, LEFTARG = period_ends, RIGHTARG = period_ends, COMMUTATOR = <);
-COMMENT ON OPERATOR > (period_ends, period_ends) IS 'the days on which of two periods the left is behind the right in the order of rows';
+COMMENT ON OPERATOR > (period_ends, period_ends) IS
+    'the days on which of two periods the left is behind the right in the order of rows';
 CREATE OPERATOR && (FUNCTION = overlaps, LEFTARG = period_ends, RIGHTARG = period_ends, COMMUTATOR = &&);
 COMMENT ON OPERATOR && (period_ends, period_ends) IS 'the days on which two periods share a day';
 CREATE OPERATOR << (FUNCTION = before, LEFTARG = period_ends, RIGHTARG = period_ends, COMMUTATOR = >>);
@@ -491,7 +513,8 @@ BEGIN ATOMIC
 END;
 COMMENT ON FUNCTION columns_of(oid) IS 'the columns of a table or view with their types';
 
-CREATE FUNCTION has_columns(of regclass, columns text) RETURNS boolean STABLE STRICT PARALLEL SAFE LANGUAGE plpgsql SET search_path = pg_catalog AS $$
+CREATE FUNCTION has_columns(of regclass, columns text) RETURNS boolean STABLE STRICT PARALLEL SAFE LANGUAGE plpgsql
+SET search_path = pg_catalog AS $$
 BEGIN
     IF ongoing.columns_of(of) IS DISTINCT FROM columns THEN
         RAISE EXCEPTION 'the columns of % are no longer %', of, columns
@@ -499,7 +522,8 @@ BEGIN
     END IF;
     RETURN true;
 END $$;
-COMMENT ON FUNCTION has_columns(regclass, text) IS 'true where a table has these columns with their types; an error where it has others';
+COMMENT ON FUNCTION has_columns(regclass, text) IS
+    'true where a table has these columns with their types; an error where it has others';
 
 -- It is put into the query, so an index on days is used. Where a period is the one column, PostgreSQL gives its parts as
 -- the columns first and until. After a change of the columns it stops, and is to be made anew.
@@ -575,7 +599,8 @@ BEGIN
     RETURN QUERY SELECT * FROM pg_attribute
         WHERE attrelid = of AND attnum > 0 AND NOT attisdropped AND NOT ongoing.is_days(attname, atttypid) ORDER BY attnum;
 END $$;
-COMMENT ON FUNCTION columns_for(regclass, boolean) IS 'the columns of a table but its days; an error where ongq refuses their number or names';
+COMMENT ON FUNCTION columns_for(regclass, boolean) IS
+    'the columns of a table but its days; an error where ongq refuses their number or names';
 
 CREATE FUNCTION has_days(of regclass) RETURNS boolean STABLE LANGUAGE sql
 BEGIN ATOMIC
