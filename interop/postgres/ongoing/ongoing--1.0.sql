@@ -141,9 +141,9 @@ RETURN CASE WHEN p IS NOT NULL AND day IS NOT NULL
     THEN ROW(at(p.start_low, p.start_high, day), at(p.end_low, p.end_high, day))::span END;
 COMMENT ON FUNCTION at(period_ends, date) IS 'a period as it is on a day';
 
-CREATE FUNCTION range(s span) RETURNS daterange IMMUTABLE STRICT PARALLEL SAFE
+CREATE FUNCTION range(s span) RETURNS daterange IMMUTABLE PARALLEL SAFE
 RETURN CASE WHEN s.first < s.until THEN daterange(nullif(s.first, '-infinity'), nullif(s.until, 'infinity'))
-    ELSE 'empty' END;
+    WHEN s.first >= s.until THEN 'empty' END;
 COMMENT ON FUNCTION range(span) IS 'the days of a span as a range; the empty range where it is empty';
 
 
@@ -290,7 +290,8 @@ RETURN nonempty(p) * nonempty(q) * same(p, q);
 COMMENT ON FUNCTION equals(period_ends, period_ends) IS 'the days on which two periods have the same days';
 
 
--- Texts as ongq spells them. Of a text that is none the reading is an error; but the ranges of a set may stand in any
+-- Texts as ongq spells them, in PL/pgSQL, which keeps its plans: a function of SQL that is no part of the query makes those of all
+-- that it calls anew each time. Of a text that is none the reading is an error; but the ranges of a set may stand in any
 -- order, touch, and be empty.
 
 CREATE FUNCTION refuse(message text) RETURNS text IMMUTABLE STRICT PARALLEL SAFE LANGUAGE plpgsql
@@ -300,75 +301,95 @@ COMMENT ON FUNCTION refuse(text) IS
 
 -- There is a year 0 in ongq, which is 1 BC, and none in PostgreSQL.
 
-CREATE FUNCTION read_day(t text) RETURNS date IMMUTABLE STRICT PARALLEL SAFE
-RETURN CASE WHEN t IN ('-infinity', 'infinity') THEN t::date
-    WHEN t ~ '^([0-9]{4}|-00[0-9]{4})-[0-9]{2}-[0-9]{2}$' AND left(t, 7) <> '-000000'
-    THEN make_date(left(t, -6)::integer - CASE WHEN left(t, -6)::integer <= 0 THEN 1 ELSE 0 END,
-        left(right(t, 5), 2)::integer, right(t, 2)::integer)
-    ELSE refuse('no day: ' || t)::date END;
+CREATE FUNCTION read_day(t text) RETURNS date IMMUTABLE STRICT PARALLEL SAFE LANGUAGE plpgsql AS $$
+BEGIN
+    RETURN CASE WHEN t IN ('-infinity', 'infinity') THEN t::date
+        WHEN t ~ '^([0-9]{4}|-00[0-9]{4})-[0-9]{2}-[0-9]{2}$' AND left(t, 7) <> '-000000'
+        THEN make_date(left(t, -6)::integer - CASE WHEN left(t, -6)::integer <= 0 THEN 1 ELSE 0 END,
+            left(right(t, 5), 2)::integer, right(t, 2)::integer)
+        ELSE ongoing.refuse('no day: ' || t)::date END;
+END $$;
 COMMENT ON FUNCTION read_day(text) IS 'the day of a day text';
 
-CREATE FUNCTION read_point(t text) RETURNS point_ends IMMUTABLE STRICT PARALLEL SAFE
-RETURN CASE WHEN t = 'now' THEN ROW('-infinity', 'infinity')::point_ends
-    WHEN t !~ '\+' THEN fixed(read_day(t))
-    WHEN t ~ '^\+[-0-9]+$' THEN ROW('-infinity', read_day(substr(t, 2)))::point_ends
-    WHEN t ~ '^[-0-9]+\+$' THEN ROW(read_day(left(t, -1)), 'infinity')::point_ends
-    WHEN t ~ '^[-0-9]+\+[-0-9]+$' AND read_day(split_part(t, '+', 1)) < read_day(split_part(t, '+', 2))
-    THEN ROW(read_day(split_part(t, '+', 1)), read_day(split_part(t, '+', 2)))::point_ends
-    ELSE ROW(refuse('no point: ' || t), NULL)::point_ends END;
+CREATE FUNCTION read_point(t text) RETURNS point_ends IMMUTABLE STRICT PARALLEL SAFE LANGUAGE plpgsql AS $$
+BEGIN
+    RETURN CASE WHEN t = 'now' THEN ROW('-infinity', 'infinity')::ongoing.point_ends
+        WHEN t !~ '\+' THEN ongoing.fixed(ongoing.read_day(t))
+        WHEN t ~ '^\+[-0-9]+$' THEN ROW('-infinity', ongoing.read_day(substr(t, 2)))::ongoing.point_ends
+        WHEN t ~ '^[-0-9]+\+$' THEN ROW(ongoing.read_day(left(t, -1)), 'infinity')::ongoing.point_ends
+        WHEN t ~ '^[-0-9]+\+[-0-9]+$' AND ongoing.read_day(split_part(t, '+', 1)) < ongoing.read_day(split_part(t, '+', 2))
+        THEN ROW(ongoing.read_day(split_part(t, '+', 1)), ongoing.read_day(split_part(t, '+', 2)))::ongoing.point_ends
+        ELSE ROW(ongoing.refuse('no point: ' || t), NULL)::ongoing.point_ends END;
+END $$;
 COMMENT ON FUNCTION read_point(text) IS 'the point of a point text';
 
-CREATE FUNCTION read_period(t text) RETURNS period_ends IMMUTABLE STRICT PARALLEL SAFE
-RETURN CASE WHEN t ~ '^\[[^,]+,[^,]+\)$'
-    THEN period(read_point(substr(split_part(t, ',', 1), 2)), read_point(left(split_part(t, ',', 2), -1)))
-    ELSE ROW(refuse('no period: ' || t), NULL, NULL, NULL)::period_ends END;
+CREATE FUNCTION read_period(t text) RETURNS period_ends IMMUTABLE STRICT PARALLEL SAFE LANGUAGE plpgsql AS $$
+BEGIN
+    RETURN CASE WHEN t ~ '^\[[^,]+,[^,]+\)$'
+        THEN ongoing.period(ongoing.read_point(substr(split_part(t, ',', 1), 2)), ongoing.read_point(left(split_part(t, ',', 2), -1)))
+        ELSE ROW(ongoing.refuse('no period: ' || t), NULL, NULL, NULL)::ongoing.period_ends END;
+END $$;
 COMMENT ON FUNCTION read_period(text) IS 'the period of a period text';
 
-CREATE FUNCTION read_end(t text) RETURNS date IMMUTABLE STRICT PARALLEL SAFE
-RETURN CASE WHEN t ~ '^-00[0-9]{4}-' AND (substr(t, 4, 4) > '4713' OR substr(t, 4, 4) = '4713' AND right(t, 5) <= '11-24')
-    THEN '-infinity' ELSE read_day(t) END;
+CREATE FUNCTION read_end(t text) RETURNS date IMMUTABLE STRICT PARALLEL SAFE LANGUAGE plpgsql AS $$
+BEGIN
+    RETURN CASE WHEN t ~ '^-00[0-9]{4}-' AND (substr(t, 4, 4) > '4713' OR substr(t, 4, 4) = '4713' AND right(t, 5) <= '11-24')
+        THEN '-infinity' ELSE ongoing.read_day(t) END;
+END $$;
 COMMENT ON FUNCTION read_end(text) IS
     'the end of a range in a set text; -infinity up to PostgreSQL''s first day, before which there is none';
 
-CREATE FUNCTION read_days(t text) RETURNS datemultirange IMMUTABLE STRICT PARALLEL SAFE
-RETURN CASE WHEN t = '*' THEN '{(,)}'::datemultirange
-    WHEN t ~ '^\{(\[[-0-9a-z]+,[-0-9a-z]+\)(,\[[-0-9a-z]+,[-0-9a-z]+\))*)?\}$'
-    THEN (SELECT coalesce(range_agg(daterange(nullif(read_end(ends[1]), '-infinity'), nullif(read_end(ends[2]), 'infinity')))
-            FILTER (WHERE read_end(ends[2]) > '-infinity'), '{}')
-        FROM regexp_matches(t, '\[([^,]+),([^)]+)\)', 'g') AS found(ends))
-    ELSE refuse('no days: ' || t)::datemultirange END;
+CREATE FUNCTION read_days(t text) RETURNS datemultirange IMMUTABLE STRICT PARALLEL SAFE LANGUAGE plpgsql AS $$
+BEGIN
+    RETURN CASE WHEN t = '*' THEN '{(,)}'::datemultirange
+        WHEN t ~ '^\{(\[[-0-9a-z]+,[-0-9a-z]+\)(,\[[-0-9a-z]+,[-0-9a-z]+\))*)?\}$'
+        THEN (SELECT coalesce(range_agg(daterange(nullif(ongoing.read_end(ends[1]), '-infinity'), nullif(ongoing.read_end(ends[2]), 'infinity')))
+                FILTER (WHERE ongoing.read_end(ends[2]) > '-infinity'), '{}')
+            FROM regexp_matches(t, '\[([^,]+),([^)]+)\)', 'g') AS found(ends))
+        ELSE ongoing.refuse('no days: ' || t)::datemultirange END;
+END $$;
 COMMENT ON FUNCTION read_days(text) IS 'the days of a set text, or of * for all days';
 
-CREATE FUNCTION show(day date) RETURNS text IMMUTABLE STRICT PARALLEL SAFE
-RETURN CASE WHEN day = 'infinity' THEN 'infinity' WHEN day = '-infinity' THEN '-infinity'
-    WHEN day > '9999-12-31' THEN refuse('past the last day of ongq: year ' || extract(year FROM day)::integer)
-    ELSE CASE WHEN day < '0001-01-01 BC' THEN '-' || lpad((-1 - extract(year FROM day)::integer)::text, 6, '0')
-            WHEN day < '0001-01-01' THEN '0000' ELSE lpad(extract(year FROM day)::integer::text, 4, '0') END
-        || '-' || lpad(extract(month FROM day)::integer::text, 2, '0')
-        || '-' || lpad(extract(day FROM day)::integer::text, 2, '0') END;
+CREATE FUNCTION show(day date) RETURNS text IMMUTABLE STRICT PARALLEL SAFE LANGUAGE plpgsql AS $$
+BEGIN
+    RETURN CASE WHEN day BETWEEN '0001-01-01' AND '9999-12-31' THEN to_char(day::timestamp, 'YYYY-MM-DD')
+        WHEN day = 'infinity' THEN 'infinity' WHEN day = '-infinity' THEN '-infinity'
+        WHEN day > '9999-12-31' THEN ongoing.refuse('past the last day of ongq: year ' || extract(year FROM day)::integer)
+        ELSE CASE WHEN day < '0001-01-01 BC' THEN '-' || lpad((-1 - extract(year FROM day)::integer)::text, 6, '0') ELSE '0000' END
+            || '-' || lpad(extract(month FROM day)::integer::text, 2, '0')
+            || '-' || lpad(extract(day FROM day)::integer::text, 2, '0') END;
+END $$;
 COMMENT ON FUNCTION show(date) IS 'the day text of a day; an error past 9999-12-31, the last day of ongq';
 
-CREATE FUNCTION show(p point_ends) RETURNS text IMMUTABLE STRICT PARALLEL SAFE
-RETURN CASE WHEN p.low = p.high THEN show(p.low)
-    WHEN p.low = '-infinity' AND p.high = 'infinity' THEN 'now'
-    ELSE CASE WHEN p.low = '-infinity' THEN '' ELSE show(p.low) END || '+'
-        || CASE WHEN p.high = 'infinity' THEN '' ELSE show(p.high) END END;
+CREATE FUNCTION show(p point_ends) RETURNS text IMMUTABLE STRICT PARALLEL SAFE LANGUAGE plpgsql AS $$
+BEGIN
+    RETURN CASE WHEN p.low = p.high THEN ongoing.show(p.low)
+        WHEN p.low = '-infinity' AND p.high = 'infinity' THEN 'now'
+        ELSE CASE WHEN p.low = '-infinity' THEN '' ELSE ongoing.show(p.low) END || '+'
+            || CASE WHEN p.high = 'infinity' THEN '' ELSE ongoing.show(p.high) END END;
+END $$;
 COMMENT ON FUNCTION show(point_ends) IS 'the point text of a point';
 
-CREATE FUNCTION show(p period_ends) RETURNS text IMMUTABLE STRICT PARALLEL SAFE
-RETURN '[' || show(start_of(p)) || ',' || show(end_of(p)) || ')';
+CREATE FUNCTION show(p period_ends) RETURNS text IMMUTABLE STRICT PARALLEL SAFE LANGUAGE plpgsql AS $$
+BEGIN
+    RETURN '[' || ongoing.show(ongoing.start_of(p)) || ',' || ongoing.show(ongoing.end_of(p)) || ')';
+END $$;
 COMMENT ON FUNCTION show(period_ends) IS 'the period text of a period';
 
-CREATE FUNCTION show(s span) RETURNS text IMMUTABLE STRICT PARALLEL SAFE
-RETURN '[' || show(s.first) || ',' || show(s.until) || ')';
+CREATE FUNCTION show(s span) RETURNS text IMMUTABLE STRICT PARALLEL SAFE LANGUAGE plpgsql AS $$
+BEGIN
+    RETURN '[' || ongoing.show(s.first) || ',' || ongoing.show(s.until) || ')';
+END $$;
 COMMENT ON FUNCTION show(span) IS 'the text of a period as it is on a day';
 
-CREATE FUNCTION show(days datemultirange) RETURNS text IMMUTABLE STRICT PARALLEL SAFE
-RETURN CASE WHEN days @> '{(,10000-01-01)}'::datemultirange THEN '*' ELSE
-    (SELECT '{' || coalesce(string_agg('[' || coalesce(show(lower(one)), '-infinity') || ','
-            || CASE WHEN upper(one) < '10000-01-01' THEN show(upper(one)) ELSE 'infinity' END || ')',
-            ',' ORDER BY lower(one) NULLS FIRST), '') || '}'
-    FROM unnest(days * '{(,10000-01-01)}'::datemultirange) AS one) END;
+CREATE FUNCTION show(days datemultirange) RETURNS text IMMUTABLE STRICT PARALLEL SAFE LANGUAGE plpgsql AS $$
+BEGIN
+    RETURN CASE WHEN days @> '{(,10000-01-01)}'::datemultirange THEN '*' ELSE
+        (SELECT '{' || coalesce(string_agg('[' || coalesce(ongoing.show(lower(one)), '-infinity') || ','
+                || CASE WHEN upper(one) < '10000-01-01' THEN ongoing.show(upper(one)) ELSE 'infinity' END || ')',
+                ',' ORDER BY lower(one) NULLS FIRST), '') || '}'
+        FROM unnest(days * '{(,10000-01-01)}'::datemultirange) AS one) END;
+END $$;
 COMMENT ON FUNCTION show(datemultirange) IS
     'the set text of a set of days, up to the last day of ongq; * for all of them';
 
@@ -553,14 +574,19 @@ RETURN CASE WHEN type IN ('bigint'::regtype, 'integer'::regtype, 'smallint'::reg
     WHEN type IN ('daterange'::regtype, 'ongoing_period'::regtype, 'period_ends'::regtype) THEN 'PERIOD' END;
 COMMENT ON FUNCTION kind_of(oid) IS 'the kind of ongq that a column of a type becomes; NULL where there is none';
 
-CREATE FUNCTION show(days daterange, open text) RETURNS text IMMUTABLE STRICT PARALLEL SAFE
-RETURN CASE WHEN NOT isempty(days) AND coalesce(upper(days), 'infinity') = 'infinity'
-    THEN '[' || show(coalesce(lower(days), '-infinity')) || ',' || open || ')' ELSE show(fixed(days)) END;
+CREATE FUNCTION show(days daterange, open text) RETURNS text IMMUTABLE STRICT PARALLEL SAFE LANGUAGE plpgsql AS $$
+BEGIN
+    RETURN CASE WHEN NOT isempty(days) AND coalesce(upper(days), 'infinity') = 'infinity'
+        THEN '[' || ongoing.show(coalesce(lower(days), '-infinity')) || ',' || open || ')' ELSE ongoing.show(ongoing.fixed(days)) END;
+END $$;
 COMMENT ON FUNCTION show(daterange, text) IS
     'the text of a range as a period; a range without an end ends with the point of the text that is given';
 
 CREATE FUNCTION shown(value text, name text) RETURNS text IMMUTABLE PARALLEL SAFE
-RETURN coalesce(value, refuse('ongq has no NULL, and the column has one: ' || name || coalesce(value, '')));
+LANGUAGE plpgsql AS $$
+BEGIN
+    RETURN coalesce(value, ongoing.refuse('ongq has no NULL, and the column has one: ' || name));
+END $$;
 COMMENT ON FUNCTION shown(text, text) IS 'the value that is shown; an error where it is NULL';
 
 CREATE FUNCTION name_of(name name, may_be_reserved boolean) RETURNS text IMMUTABLE STRICT PARALLEL SAFE
@@ -628,8 +654,10 @@ COMMENT ON FUNCTION create_table(regclass) IS 'the statement of ongq that makes 
 
 -- A saved file of version 2, for OPEN.
 
-CREATE FUNCTION field(cell text) RETURNS text IMMUTABLE STRICT PARALLEL SAFE
-RETURN CASE WHEN cell ~ '[,"\r\n]' THEN '"' || replace(cell, '"', '""') || '"' ELSE cell END;
+CREATE FUNCTION field(cell text) RETURNS text IMMUTABLE STRICT PARALLEL SAFE LANGUAGE plpgsql AS $$
+BEGIN
+    RETURN CASE WHEN cell ~ '[,"\r\n]' THEN '"' || replace(cell, '"', '""') || '"' ELSE cell END;
+END $$;
 COMMENT ON FUNCTION field(text) IS 'a field of a record as ongq writes it, with quotes where it needs them';
 
 CREATE FUNCTION save_header(of regclass) RETURNS text STABLE LANGUAGE sql
