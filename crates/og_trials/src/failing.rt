@@ -5,9 +5,6 @@ use og_case_files::{Case, Refusal};
 use og_syntax::Stmt;
 use std::thread::Threads;
 
-// The bytes that a source which fails gives a call.
-const STEP: usize = 24;
-
 /// Runs the case with the sink failing at each of its calls, until a run makes fewer calls.
 pub fn try_sinks<H: Threads + Sync + AllocGlobal>(
     rt: &H,
@@ -45,15 +42,25 @@ fn is_unwritten(outcome: &Outcome, call: u64, whole: &Outcome, case: &Case) -> b
         && outcome.has_files_after(outcome.files.calls(), whole, case)
 }
 
+// The bytes that a source which fails gives a call: one where the whole run is to write files.
+fn step_of(whole: &Outcome) -> usize {
+    if whole.files.writes().is_empty() {
+        24
+    } else {
+        1
+    }
+}
+
 /// Runs the case with the source failing at each of its calls, until a run makes fewer calls.
 pub fn try_sources<H: Threads + Sync + AllocGlobal>(
     rt: &H,
     case: &Case,
+    whole: &Outcome,
     report: &mut Report,
 ) -> Result<(), Refusal> {
     for call in 1..u64::MAX {
         let setting = Setting {
-            step: STEP,
+            step: step_of(whole),
             source_fails: Some(call),
             ..Setting::WHOLE
         };

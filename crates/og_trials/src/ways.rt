@@ -73,7 +73,7 @@ fn try_again<H: Threads + Sync + AllocGlobal>(
         ..Setting::WHOLE
     };
     try_script(rt, case, script, bytewise, "a byte a call", report)?;
-    try_sources(rt, case, report)?;
+    try_sources(rt, case, whole, report)?;
     match tree_of(rt.alloc(), script)? {
         Some(tree) => try_tree(rt, case, whole, &tree, report),
         None => try_text(rt.alloc(), case, b"", report),
