@@ -21,6 +21,16 @@ fn differ<H: AllocGlobal + Abort>(rt: &H, left: Expr, right: Expr) -> Box<Cond> 
     Box::new(rt.alloc(), cond).expect(rt, "memory")
 }
 
+// Whether what is apart is told of the row beside itself: its period and one that ends before it begins, two equal
+// numbers that are to differ, and a number and a period; and whether its period and itself are not.
+fn are_told<H: AllocGlobal + Abort>(rt: &H, row: &Row) -> bool {
+    let early = Expr::Lit(cell(rt, Kind::Period, "[2019-01-01,2020-01-25)"));
+    !may_hold(row, overlap(rt, Expr::Column(5), early))
+        && !may_hold(row, differ(rt, Expr::Column(0), Expr::Column(3)))
+        && may_hold(row, overlap(rt, Expr::Column(2), Expr::Column(5)))
+        && !may_hold(row, overlap(rt, Expr::Column(0), Expr::Column(5)))
+}
+
 #[test]
 fn a_pair_that_is_apart_on_all_days_is_told_at_once(rt: HostRuntime) {
     let row = row(
@@ -31,10 +41,5 @@ fn a_pair_that_is_apart_on_all_days_is_told_at_once(rt: HostRuntime) {
             cell(&rt, Kind::Period, "[2020-01-25,now)"),
         ],
     );
-    // The period of the right row overlaps one that ends before it begins.
-    let early = Expr::Lit(cell(&rt, Kind::Period, "[2019-01-01,2020-01-25)"));
-    assert!(rt; !may_hold(&row, overlap(&rt, Expr::Column(5), early)));
-    assert!(rt; !may_hold(&row, differ(&rt, Expr::Column(0), Expr::Column(3))));
-    assert!(rt; may_hold(&row, overlap(&rt, Expr::Column(2), Expr::Column(5))));
-    assert!(rt; !may_hold(&row, overlap(&rt, Expr::Column(0), Expr::Column(5))));
+    assert!(rt; are_told(&rt, &row));
 }

@@ -153,19 +153,23 @@ fn is_core_copied(alloc: Global, core: &Core) -> bool {
     }
 }
 
-// Whether a copy of the condition and one of the first item are the same.
-fn are_parts_copied(alloc: Global, core: &Core) -> bool {
-    let Ok(cond) = core.cond.copy(alloc) else {
-        return false;
-    };
-    if !is_condition(&cond) {
-        return false;
+fn is_condition_copied(alloc: Global, cond: &Cond) -> bool {
+    match cond.copy(alloc) {
+        Ok(copy) => is_condition(&copy),
+        Err(_) => false,
     }
-    match core.items.get(0) {
-        Some(item) => match item.copy(alloc) {
-            Ok(copy) => is_column(&copy, 0),
-            Err(_) => false,
-        },
+}
+
+fn is_item_copied(alloc: Global, item: &Expr) -> bool {
+    match item.copy(alloc) {
+        Ok(copy) => is_column(&copy, 0),
+        Err(_) => false,
+    }
+}
+
+fn is_first_copied(alloc: Global, items: &[Expr]) -> bool {
+    match items.first() {
+        Some(item) => is_item_copied(alloc, item),
         None => false,
     }
 }
@@ -174,6 +178,7 @@ fn are_parts_copied(alloc: Global, core: &Core) -> bool {
 fn each_copy_of_a_query_or_a_part_of_it_is_the_same(rt: HostRuntime) {
     let query = query(&rt);
     assert!(rt; is_query(&query) && is_query_copied(rt.alloc(), &query));
-    assert!(rt; is_core_copied(rt.alloc(), &query.first));
-    assert!(rt; are_parts_copied(rt.alloc(), &query.first));
+    let core = &query.first;
+    assert!(rt; is_core_copied(rt.alloc(), core) && is_condition_copied(rt.alloc(), &core.cond));
+    assert!(rt; is_first_copied(rt.alloc(), core.items.as_slice()));
 }
