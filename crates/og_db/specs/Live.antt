@@ -14,9 +14,9 @@ pub record Live : Type 0 where
   pub name : List ℕ
   pub query : Query
 
--- whether some table of a core has that name
+-- whether some table of a core has that name, in FROM or in an EXISTS or NOT EXISTS
 abbrev pub core_uses : Core → List ℕ → Bool
-core_uses core name = list_any (λ table. bytes_eq name table.name) core.tables
+core_uses core name = list_any (λ table. bytes_eq name table.name) core.tables || list_any (λ semi. bytes_eq name semi.table.name) core.semis
 
 -- whether a query names a table: some table of some core has that name
 abbrev pub uses : Query → List ℕ → Bool

@@ -1,8 +1,8 @@
 -- Live results after any front of what a run carries out.
 use Rattle.std.proofs.Common.{◌≡◌, ◌++◌, ◌∙◌, ℕ, suc, ℤ, true, List, [], ◌∷◌, Option, Some, None, Result, Ok, Err, IfOk, map, refl, sym, ap, subst, append_assoc, append-nil}
 use Rattle.std.specs.Bool.{⊤}
-use Rattle.std.specs.List.{All, AllByRecursion}
-use Rattle.std.proofs.lemmas.List.Elements.{All-nil, All-weaker, recursion_from_All}
+use Rattle.std.specs.List.{All}
+use Rattle.std.proofs.lemmas.List.Elements.{All-nil, All-weaker}
 use Rattle.std.proofs.lemmas.List.Sums.{fold-append}
 use Rattle.std.proofs.lemmas.Result.{IfOk-at_ok}
 use Rattle.og_value.specs.declared.kind.What.TheVariants as what
@@ -26,41 +26,32 @@ use Rattle.og_file.specs.SavedFile.{Pair}
 use Rattle.og_file.specs.declared.refusal.FileRefusal.{FileRefusal}
 use Rattle.og_faults.specs.Refusals.{Refused}
 use Rattle.og_io.specs.Folders.{Folder}
-use Rattle.og_words.specs.declared.command.Command.{Command}
-use Rattle.og_words.specs.declared.command.Command.TheVariants as commands
-use Rattle.og_script.specs.LiveTexts.{IsLiveStmt}
-use Rattle.og_script.specs.Scripts.{IsScriptOf}
-use Rattle.og_script.proofs.CommandLemmas.{load_live}
-use Rattle.og_script.proofs.LiveScripts.{script_live}
-use Rattle.og_script.proofs.ScriptLemmas.{at_live}
 use Rattle.og_session.specs.Contents.{Content, Contents, columns_after, effect_of, importing, importing_of, opening, opening_of, outcome, outcome_of, taken}
 use Rattle.og_session.specs.LiveResults.{live_result}
-use Rattle.og_session.specs.Lives.{IsLiveTyped}
 use Rattle.og_session.specs.Runs.{IsDefinedRun, Run, after_outcome, is_run, no_command, no_script, run_from}
 use Rattle.og_session.proofs.CatalogLemmas.{known_of_day}
 use Rattle.og_session.proofs.FollowedNames.{found_is, names-left}
 use Rattle.og_session.proofs.LiveWorlds.{AreRight, IsChecked, IsRight, kept_step, right_step}
-use Rattle.og_session.proofs.StepLemmas.{typed_live}
 
 -- ---- what a run carries out passed its checks
 
 module _ (contents : Contents) (before : List Effect) where
   -- what a statement does that passed them
-  typed_checked : (typed : Typed) → IsFit (known_after before) typed → IsLiveTyped typed → IfOk (taken (effect_of contents before typed)) (IsChecked (known_after before))
-  typed_checked (t.Create name columns) fit live = (fit, live)
-  typed_checked (t.Insert name rows) fit live = (fit, live)
-  typed_checked (t.Delete name cond) fit live = (fit, live)
-  typed_checked (t.Update name sets cond) fit live = (fit, live)
-  typed_checked (t.Drop name) fit live = (fit, live)
-  typed_checked t.Tables fit live = (fit, live)
-  typed_checked (t.Keep name query) fit live = (fit, live)
-  typed_checked (t.PrintName name day) fit live = (fit, live)
-  typed_checked (t.PrintQuery query day) fit live = (fit, live)
-  typed_checked (t.Explain query) fit live = (fit, live)
-  typed_checked (t.Valid name day) fit live = (fit, live)
-  typed_checked (t.Live name query) fit live = (fit, live)
-  typed_checked (t.Save name file) fit live = tt
-  typed_checked (t.OpenFile name file) fit live = by (found (sizes_after before).files file) (contents file)
+  typed_checked : (typed : Typed) → IsFit (known_after before) typed → IfOk (taken (effect_of contents before typed)) (IsChecked (known_after before))
+  typed_checked (t.Create name columns) fit = fit
+  typed_checked (t.Insert name rows) fit = fit
+  typed_checked (t.Delete name cond) fit = fit
+  typed_checked (t.Update name sets cond) fit = fit
+  typed_checked (t.Drop name) fit = fit
+  typed_checked t.Tables fit = fit
+  typed_checked (t.Keep name query) fit = fit
+  typed_checked (t.PrintName name day) fit = fit
+  typed_checked (t.PrintQuery query day) fit = fit
+  typed_checked (t.Explain query) fit = fit
+  typed_checked (t.Valid name day) fit = fit
+  typed_checked (t.Live name query) fit = fit
+  typed_checked (t.Save name file) fit = tt
+  typed_checked (t.OpenFile name file) fit = by (found (sizes_after before).files file) (contents file)
     where
       read : (saved : Result (List Column × List Pair) FileRefusal) → IfOk (taken (opening_of name saved)) (IsChecked (known_after before))
       read (Ok table) = tt
@@ -70,7 +61,7 @@ module _ (contents : Contents) (before : List Effect) where
       by (Some held) content = tt
       by None None = tt
       by None (Some content) = read content.saved
-  typed_checked (t.ImportFile name file) fit live = by (found (sizes_after before).files file) (contents file)
+  typed_checked (t.ImportFile name file) fit = by (found (sizes_after before).files file) (contents file)
     where
       read : (rows : Result (List (List Value)) FileRefusal) → IfOk (taken (importing_of name rows)) (IsChecked (known_after before))
       read (Ok rows) = tt
@@ -82,12 +73,11 @@ module _ (contents : Contents) (before : List Effect) where
       by None (Some content) = read (content.rows (columns_after before name))
 
   -- what the next statement does
-  next_checked : (stmt : Stmt) (effect : Effect) → IsLiveStmt stmt → outcome contents before stmt ≡ Ok effect → IsChecked (known_after before) effect
-  next_checked stmt effect live is = by (checked (known_after before) stmt) refl is
+  next_checked : (stmt : Stmt) (effect : Effect) → outcome contents before stmt ≡ Ok effect → IsChecked (known_after before) effect
+  next_checked stmt effect is = by (checked (known_after before) stmt) refl is
     where
       by : (end : Checked Typed) → checked (known_after before) stmt ≡ end → outcome_of contents before end ≡ Ok effect → IsChecked (known_after before) effect
-      by (Ok typed) passed is =
-          IfOk-at_ok (IsChecked (known_after before)) is (typed_checked typed (statement_fits (known_after before) stmt typed passed) (typed_live (known_after before) stmt typed live passed))
+      by (Ok typed) passed is = IfOk-at_ok (IsChecked (known_after before)) is (typed_checked typed (statement_fits (known_after before) stmt typed passed))
       by (Err fault) passed is = cc is
 
 -- each, over what is known after those before it
@@ -96,31 +86,25 @@ AreChecked before [] = ⊤
 AreChecked before (effect ∷ effects) = IsChecked (known_after before) effect × AreChecked (before ++ effect ∷ []) effects
 
 -- those of statements
-run_checked : (contents : Contents) (n : ℕ) (before : List Effect) (stmts : List Stmt) → AllByRecursion IsLiveStmt stmts
+run_checked : (contents : Contents) (n : ℕ) (before : List Effect) (stmts : List Stmt)
     → (effects : List Effect) × ((run_from contents n before stmts).done ≡ before ++ effects) × AreChecked before effects
-run_checked contents n before [] live = ([], sym (append-nil before), tt)
-run_checked contents n before (stmt ∷ stmts) live = by (outcome contents before stmt) refl (λ effect. run_checked contents (suc n) (before ++ effect ∷ []) stmts live.1)
+run_checked contents n before [] = ([], sym (append-nil before), tt)
+run_checked contents n before (stmt ∷ stmts) = by (outcome contents before stmt) refl (λ effect. run_checked contents (suc n) (before ++ effect ∷ []) stmts)
   where
     by : (end : Result Effect Refused) → outcome contents before stmt ≡ end
         → ((effect : Effect) → (effects : List Effect) × ((run_from contents (suc n) (before ++ effect ∷ []) stmts).done ≡ (before ++ effect ∷ []) ++ effects) × AreChecked (before ++ effect ∷ []) effects)
         → (effects : List Effect) × ((after_outcome n before (λ effect. run_from contents (suc n) (before ++ effect ∷ []) stmts) end).done ≡ before ++ effects) × AreChecked before effects
     by (Ok effect) is rest =
         let more = rest effect in
-        (effect ∷ more.0, more.1 ∙ append_assoc before (effect ∷ []) more.0, (next_checked contents before stmt effect live.0 is, more.2))
+        (effect ∷ more.0, more.1 ∙ append_assoc before (effect ∷ []) more.0, (next_checked contents before stmt effect is, more.2))
     by (Err refusal) is rest = ([], sym (append-nil before), tt)
-
--- a command's statements are of the grammar, which bounds the queries of LIVE
-script_of_live : (command : Command) (source : List ℕ) (stmts : List Stmt) → IsScriptOf command source stmts → All IsLiveStmt stmts
-script_of_live (commands.Run workers) source stmts script = script_live source script.trees.0 stmts script.trees.2
-script_of_live (commands.At file day) source stmts same = subst (All IsLiveStmt) (sym same) (at_live file day)
-script_of_live (commands.Load rows workers) source stmts same = subst (All IsLiveStmt) (sym same) (load_live rows)
 
 -- those of a run
 defined_checked : (words : List (List ℕ)) (source : List ℕ) (start : Folder) (run : Run) → IsDefinedRun words source start run → AreChecked [] run.done
 defined_checked words source start run (no_command none e) = subst (λ r. AreChecked [] r.done) (sym e) tt
 defined_checked words source start run (no_script is line fault e) = subst (λ r. AreChecked [] r.done) (sym e) tt
 defined_checked words source start run (is_run command is stmts script contents are e) =
-    let all = run_checked contents 1 [] stmts (recursion_from_All IsLiveStmt stmts (script_of_live command source stmts script)) in
+    let all = run_checked contents 1 [] stmts in
     subst (AreChecked []) (sym (ap (λ r. r.done) e ∙ all.1)) all.2
 
 -- ---- the worlds of a day

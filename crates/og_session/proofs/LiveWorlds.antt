@@ -20,10 +20,8 @@ use Rattle.og_db.specs.Held.{Held, changed_at, described, found, known_of, made_
 use Rattle.og_db.specs.Live.{Live, ends_with, kept_with, live_after, query_of, uses}
 use Rattle.og_db.specs.Statements.{Names, named_rows, names_after, or_else}
 use Rattle.og_db.proofs.WorldLemmas.{known_of-changed_at}
-use Rattle.og_view.specs.Views.{IsLiveQuery}
 use Rattle.og_view.proofs.BaseLemmas.{table_known}
 use Rattle.og_view.proofs.ViewLemmas.{used_has_columns}
-use Rattle.og_session.specs.Lives.{IsLiveTyped}
 use Rattle.og_session.proofs.ChangedNames.{found-more}
 use Rattle.og_session.proofs.FollowedNames.{first_of, found-ended, found-live, found-plain, found-push, found-without, found_is, left, query_of-push}
 use Rattle.og_session.proofs.QueryLemmas.{query_same}
@@ -68,7 +66,6 @@ pub record IsRight (d : ℤ) (names : Names) (live : List Live) (l : Live) : Typ
   pub known : IsNamedLive names l
   pub own : query_of live l.name ≡ Some l.query
   pub tables : (name : List ℕ) → uses l.query name ≡ true → IsTable names name
-  pub plain : IsLiveQuery l.query
   pub rows : rows_of names l.name ≡ Some (ordinary_query d (named_rows names) l.query)
 
 -- each of a world does
@@ -80,7 +77,6 @@ record IsReady (names after : Names) (now : List Live) (l : Live) : Type 0 where
   known : IsNamedLive after l
   own : query_of now l.name ≡ Some l.query
   tables : (name : List ℕ) → uses l.query name ≡ true → IsTable names name × IsTable after name
-  plain : IsLiveQuery l.query
 
 module _ (d : ℤ) (names : Names) (live : List Live) (right : All (IsRight d names live) live) where
   -- before the statement all are live names
@@ -109,10 +105,9 @@ module _ (d : ℤ) (names : Names) (live : List Live) (right : All (IsRight d na
           known = ap (option_map described) (found-live answer live now after l.name l.query r.own) ∙ same (found after l.name) ∙ r.known;
           own = r.own;
           tables = λ name used. let table = (r.tables name used).1 in (table.0, ap (option_map described) (stays name used) ∙ table.1);
-          plain = r.plain;
           rows = ap (option_map (λ h. h.rows)) (found-live answer live now after l.name l.query r.own)
               ∙ has (found after l.name) (what.Live, l.query.first.schema) r.known
-              ∙ ap Some (query_same d (named_rows after) (named_rows new) l.query r.plain (λ name used. ap (λ o. or_else [] (option_map (λ h. h.rows) o)) (sym (stays name used))));
+              ∙ ap Some (query_same d (named_rows after) (named_rows new) l.query (λ name used. ap (λ o. or_else [] (option_map (λ h. h.rows) o)) (sym (stays name used))));
         }
           where
             stays : (name : List ℕ) → uses l.query name ≡ true → found new name ≡ found after name
@@ -153,7 +148,6 @@ module _ (d : ℤ) (names : Names) (live : List Live) (right : All (IsRight d na
         known = keeps l.name (what.Live, l.query.first.schema) r.known;
         own = r.own;
         tables = λ name used. let table = r.tables name used in (table, (table.0, keeps name (what.Table, table.0) table.1));
-        plain = r.plain;
       }
 
   -- names that are added to, with nothing else
@@ -165,15 +159,14 @@ module _ (d : ℤ) (names : Names) (live : List Live) (right : All (IsRight d na
         known = keeps-more h l.name (what.Live, l.query.first.schema) r.known;
         own = r.own;
         tables = λ name used. let table = r.tables name used in (table.0, keeps-more h name (what.Table, table.0) table.1);
-        plain = r.plain;
         rows = ap (option_map (λ h. h.rows)) (found-more names h l.name (what.Live, l.query.first.schema) r.known)
             ∙ r.rows
-            ∙ ap Some (query_same d (named_rows names) (named_rows (names ++ h ∷ [])) l.query r.plain (λ name used.
+            ∙ ap Some (query_same d (named_rows names) (named_rows (names ++ h ∷ [])) l.query (λ name used.
             let table = r.tables name used in ap (λ o. or_else [] (option_map (λ h. h.rows) o)) (sym (found-more names h name (what.Table, table.0) table.1))));
       }
 
   -- LIVE
-  module _ (name : List ℕ) (query : Query) (new : known_of names name ≡ None) (fits : IsFitQuery (tables_of (known_of names)) query) (plain : IsLiveQuery query) where
+  module _ (name : List ℕ) (query : Query) (new : known_of names name ≡ None) (fits : IsFitQuery (tables_of (known_of names)) query) where
     -- the new live result, and its name
     abbrev last : Live
     last = record { name = name; query = query }
@@ -199,7 +192,6 @@ module _ (d : ℤ) (names : Names) (live : List Live) (right : All (IsRight d na
               let has = used_has_columns (tables_of (known_of names)) other query fits used in
               let is = table_known (known_of names other) has.0 has.1 in
               ((has.0, is), (has.0, keeps-more more other (what.Table, has.0) is));
-          plain = plain;
         })
       where
         one : (l : Live) → IsRight d names live l → IsReady names (names ++ more ∷ []) (live ++ last ∷ []) l
@@ -207,7 +199,6 @@ module _ (d : ℤ) (names : Names) (live : List Live) (right : All (IsRight d na
           known = keeps-more more l.name (what.Live, l.query.first.schema) r.known;
           own = query_of-push live last l.name ∙ ap (λ o. first_of o (cond (bytes_eq l.name name) (Some query) None)) r.own;
           tables = λ other used. let table = r.tables other used in (table, (table.0, keeps-more more other (what.Table, table.0) table.1));
-          plain = r.plain;
         }
 
   -- DROP
@@ -253,7 +244,6 @@ module _ (d : ℤ) (names : Names) (live : List Live) (right : All (IsRight d na
           known = ap (option_map described) (found-without gone names l.name (neither (bytes_eq gone l.name) (uses l.query gone) lasts).0) ∙ r.known;
           own = query_of-lasting live l r.own lasts;
           tables = λ name used. let table = r.tables name used in (table, (table.0, ap (option_map described) (found-without gone names name (other name used)) ∙ table.1));
-          plain = r.plain;
         }
           where
             other : (name : List ℕ) → uses l.query name ≡ true → bytes_eq gone name ≡ false
@@ -283,7 +273,7 @@ module _ (d : ℤ) (names : Names) (live : List Live) (right : All (IsRight d na
 
 -- what a statement does, where it passed its checks over what is known
 abbrev pub IsChecked : Known → Effect → Type 0
-IsChecked known (on_names stmt) = IsFit known stmt × IsLiveTyped stmt
+IsChecked known (on_names stmt) = IsFit known stmt
 IsChecked known (saved name file) = ⊤
 IsChecked known (reopened name file) = ⊤
 IsChecked known (opened name columns rel) = ⊤
@@ -291,26 +281,26 @@ IsChecked known (imported name rows) = ⊤
 
 module _ (d : ℤ) (world : World) (right : AreRight d world) where
   -- the names and the live results that a statement leaves, before the rows of these follow
-  ready : (stmt : Typed) → IsFit (known_of world.names) stmt → IsLiveTyped stmt → All (IsReady world.names (names_after d world.names stmt) (live_after world.live stmt)) (live_after world.live stmt)
-  ready (t.Create name columns) fit live = ready_kept d world.names world.live right _ (keeps-more d world.names world.live right _)
-  ready (t.Insert name rows) fit live = ready_kept d world.names world.live right _ (keeps-changed d world.names world.live right name _)
-  ready (t.Delete name cond) fit live = ready_kept d world.names world.live right _ (keeps-changed d world.names world.live right name _)
-  ready (t.Update name sets cond) fit live = ready_kept d world.names world.live right _ (keeps-changed d world.names world.live right name _)
-  ready (t.Drop name) fit live = ready_lasting d world.names world.live right name
-  ready (t.Keep name query) fit live = ready_kept d world.names world.live right _ (keeps-more d world.names world.live right _)
-  ready t.Tables fit live = ready_kept d world.names world.live right world.names (keeps-all d world.names world.live right)
-  ready (t.PrintName name day) fit live = ready_kept d world.names world.live right world.names (keeps-all d world.names world.live right)
-  ready (t.PrintQuery query day) fit live = ready_kept d world.names world.live right world.names (keeps-all d world.names world.live right)
-  ready (t.Save name file) fit live = ready_kept d world.names world.live right world.names (keeps-all d world.names world.live right)
-  ready (t.OpenFile name file) fit live = ready_kept d world.names world.live right world.names (keeps-all d world.names world.live right)
-  ready (t.ImportFile name file) fit live = ready_kept d world.names world.live right world.names (keeps-all d world.names world.live right)
-  ready (t.Explain query) fit live = ready_kept d world.names world.live right world.names (keeps-all d world.names world.live right)
-  ready (t.Valid name day) fit live = ready_kept d world.names world.live right world.names (keeps-all d world.names world.live right)
-  ready (t.Live name query) fit live = ready_live d world.names world.live right name query fit.0 fit.1 live
+  ready : (stmt : Typed) → IsFit (known_of world.names) stmt → All (IsReady world.names (names_after d world.names stmt) (live_after world.live stmt)) (live_after world.live stmt)
+  ready (t.Create name columns) fit = ready_kept d world.names world.live right _ (keeps-more d world.names world.live right _)
+  ready (t.Insert name rows) fit = ready_kept d world.names world.live right _ (keeps-changed d world.names world.live right name _)
+  ready (t.Delete name cond) fit = ready_kept d world.names world.live right _ (keeps-changed d world.names world.live right name _)
+  ready (t.Update name sets cond) fit = ready_kept d world.names world.live right _ (keeps-changed d world.names world.live right name _)
+  ready (t.Drop name) fit = ready_lasting d world.names world.live right name
+  ready (t.Keep name query) fit = ready_kept d world.names world.live right _ (keeps-more d world.names world.live right _)
+  ready t.Tables fit = ready_kept d world.names world.live right world.names (keeps-all d world.names world.live right)
+  ready (t.PrintName name day) fit = ready_kept d world.names world.live right world.names (keeps-all d world.names world.live right)
+  ready (t.PrintQuery query day) fit = ready_kept d world.names world.live right world.names (keeps-all d world.names world.live right)
+  ready (t.Save name file) fit = ready_kept d world.names world.live right world.names (keeps-all d world.names world.live right)
+  ready (t.OpenFile name file) fit = ready_kept d world.names world.live right world.names (keeps-all d world.names world.live right)
+  ready (t.ImportFile name file) fit = ready_kept d world.names world.live right world.names (keeps-all d world.names world.live right)
+  ready (t.Explain query) fit = ready_kept d world.names world.live right world.names (keeps-all d world.names world.live right)
+  ready (t.Valid name day) fit = ready_kept d world.names world.live right world.names (keeps-all d world.names world.live right)
+  ready (t.Live name query) fit = ready_live d world.names world.live right name query fit.0 fit.1
 
   -- live results that are right stay so
   pub right_step : (effect : Effect) → IsChecked (known_of world.names) effect → AreRight d (ordinary_statement d world effect)
-  right_step (on_names stmt) checked = right_again d world.names world.live right _ (live_after world.live stmt) (ready stmt checked.0 checked.1)
+  right_step (on_names stmt) checked = right_again d world.names world.live right _ (live_after world.live stmt) (ready stmt checked)
   right_step (saved name file) checked = right
   right_step (reopened name file) checked = by (found world.files file)
     where

@@ -196,7 +196,7 @@ module _ (old : Watched) (db files : List (Held Relation)) (views : Views) (stmt
     results [] live current d day = tt
     results (v ∷ vs) live current d day = (
       live.0.answered.law d day
-          ∙ query_same d (rows_at (rows_of v.1.bases) d) (named_rows (after d)) v.1.query live.0.answered.live (λ name used. base_rows v.1.bases d name ∙ current.0.rows name used d day),
+          ∙ query_same d (rows_at (rows_of v.1.bases) d) (named_rows (after d)) v.1.query (λ name used. base_rows v.1.bases d name ∙ current.0.rows name used d day),
       results vs live.1 current.1 d day,
     )
 

@@ -4,13 +4,15 @@ use Rattle.std.specs.Cmp.Lexicographic.{same_text}
 use Rattle.std.specs.List.{AllByRecursion, list_any}
 use Rattle.std.specs.Str.{bytes_eq}
 use Rattle.std.proofs.lemmas.List.Elements.{recursion_from_All}
+use Rattle.og_value.specs.declared.kind.Kind.{Kind}
 use Rattle.og_value.specs.declared.kind.What.TheVariants as what
 use Rattle.og_value.specs.declared.schema.Column.{Column}
-use Rattle.og_query.specs.Fits.{Known, Schemas, tables_of, IsAsNamed, IsFitCore, IsFitRest, IsFitQuery}
+use Rattle.og_query.specs.Fits.{Known, Schemas, core_kinds, tables_of, IsAsNamed, IsFitSemi, IsFitCore, IsFitRest, IsFitQuery}
 use Rattle.og_query.specs.declared.query.Core.{Core}
 use Rattle.og_query.specs.declared.query.From1.{From1}
 use Rattle.og_query.specs.declared.query.Query.{Query}
 use Rattle.og_query.specs.declared.query.Rest.{Rest}
+use Rattle.og_query.specs.declared.query.Semi.{Semi}
 use Rattle.og_exec.specs.Tables.{Relations}
 use Rattle.og_db.specs.Database.{Relation}
 use Rattle.og_db.specs.Held.{Held, known_of, rows_of}
@@ -33,9 +35,23 @@ module _ (schemas : Schemas) (name : List ℕ) where
       at true here there more = (table.schema, ap schemas (same_text name table.name (sym here)) ∙ all.0)
       at false here there more = more there
 
-  -- and so does one in FROM of a core
+  -- and so does one in EXISTS
+  in_semis : (kinds : List Kind) (semis : List Semi) → AllByRecursion (IsFitSemi schemas kinds) semis → list_any (λ semi. bytes_eq name semi.table.name) semis ≡ true → HasColumns
+  in_semis kinds [] all there = absurd (true≢false (sym there))
+  in_semis kinds (semi ∷ semis) all there = at (bytes_eq name semi.table.name) refl there (in_semis kinds semis all.1)
+    where
+      at : (b : Bool) → bytes_eq name semi.table.name ≡ b → (b || list_any (λ semi. bytes_eq name semi.table.name) semis) ≡ true
+          → (list_any (λ semi. bytes_eq name semi.table.name) semis ≡ true → HasColumns) → HasColumns
+      at true here there more = (semi.table.schema, ap schemas (same_text name semi.table.name (sym here)) ∙ all.0.table)
+      at false here there more = more there
+
+  -- and one in a core
   in_core : (core : Core) → IsFitCore schemas core → core_uses core name ≡ true → HasColumns
-  in_core core fit there = in_tables core.tables (recursion_from_All (IsAsNamed schemas) core.tables fit.tables) there
+  in_core core fit there = at (list_any (λ table. bytes_eq name table.name) core.tables) refl there
+    where
+      at : (b : Bool) → list_any (λ table. bytes_eq name table.name) core.tables ≡ b → (b || list_any (λ semi. bytes_eq name semi.table.name) core.semis) ≡ true → HasColumns
+      at true here there = in_tables core.tables (recursion_from_All (IsAsNamed schemas) core.tables fit.tables) here
+      at false here there = in_semis (core_kinds core) core.semis (recursion_from_All (IsFitSemi schemas (core_kinds core)) core.semis fit.semis) there
 
   -- and of further cores
   in_rest : (first : Core) (rests : List Rest) → AllByRecursion (IsFitRest schemas first) rests → list_any (λ rest. core_uses rest.core name) rests ≡ true → HasColumns

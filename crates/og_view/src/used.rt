@@ -5,17 +5,28 @@ ghost use Rattle.std.specs.Str.{bytes_eq};
 ghost use Rattle.og_db.specs.Live as live;
 ghost use Rattle.og_view.specs.Placed.{has_once};
 
-use og_query::{Core, Query, Rest};
+use og_query::{Core, From1, Query, Rest, Semi};
 use og_value::Name;
+
+// Whether some table has that name.
+fn tables_use(tables: &[From1], name: &Name) -> bool
+    ensures { result ≡ list_any (λ table. bytes_eq name.now table.name) tables.now }
+{
+    tables.iter().any(|table| *name == table.name)
+}
+
+// Whether the table of some semi has that name.
+fn semis_use(semis: &[Semi], name: &Name) -> bool
+    ensures { result ≡ list_any (λ semi. bytes_eq name.now semi.table.name) semis.now }
+{
+    semis.iter().any(|semi| *name == semi.table.name)
+}
 
 // Whether some table of the core has that name.
 fn core_uses(core: &Core, name: &Name) -> bool
     ensures { result ≡ live.core_uses core.now name.now }
 {
-    core.tables
-        .as_slice()
-        .iter()
-        .any(|table| *name == table.name)
+    tables_use(core.tables.as_slice(), name) || semis_use(core.semis.as_slice(), name)
 }
 
 // Whether some table of a further core has that name.
