@@ -16,6 +16,7 @@ pub mod RederivedLemmas
 pub mod RemovedLemmas
 pub mod SameLemmas
 pub mod SieveLemmas
+pub mod SizeLemmas
 pub mod TakenLemmas
 pub mod TouchedLemmas
 pub mod ViewLemmas

@@ -1,5 +1,5 @@
 //! Bases of which one has rows in the place of those that pass a test.
-ghost use Rattle.std.specs.Prelude.{◌≡◌, ◌≤◌, ℕ, List, Some, IfOk};
+ghost use Rattle.std.specs.Prelude.{◌≡◌, ◌-◌, ◌^◌, ℕ, List, Some, IfOk, min};
 ghost use Rattle.std.specs.Option.{option_map};
 ghost use Rattle.og_value.specs.declared.schema.Column.{Column};
 ghost use Rattle.og_query.specs.Fits.{schemas_of};
@@ -66,9 +66,9 @@ impl<'b, T: RowTest<Row>> Instead<'b, T> {
         }
     }
 
-    // The number of rows of the base of that name, or less where that is a number too great.
+    // The number of rows of the base of that name, or the greatest number where there are more.
     pub(crate) fn rows_in(&self, name: &Name) -> usize
-        ensures { result ≤ sizes_of (rows_of self.now) name.now }
+        ensures { result ≡ min (sizes_of (rows_of self.now) name.now) (2 ^ 64 - 1) }
     {
         let Some(own) = self.bases.rel(name.bytes()) else {
             return 0;

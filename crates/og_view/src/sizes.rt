@@ -1,5 +1,5 @@
 //! How many rows the answer of a query has at most.
-ghost use Rattle.std.specs.Prelude.{◌≡◌, ◌≤◌, ◌+◌, IsTrue, length};
+ghost use Rattle.std.specs.Prelude.{◌≡◌, ◌+◌, ◌-◌, ◌^◌, length, min, nat_le};
 ghost use Rattle.og_rel.specs.Relations.{others};
 ghost use Rattle.og_query.specs.Sizes as spec;
 ghost use Rattle.og_exec.specs.Tables.{sizes_of};
@@ -12,9 +12,9 @@ use og_query::{Core, Query};
 use og_rel::{Rel, RowTest};
 use og_value::{Row, SetOp};
 
-// The size of the core over the bases, or less where that is a number too great.
+// The size of the core over the bases, or the greatest number where it is more.
 fn core_size<T: RowTest<Row>>(core: &Core, bases: &Instead<'_, T>) -> usize
-    ensures { result ≤ spec.core_size (sizes_of (rows_of bases.now)) core.now }
+    ensures { result ≡ min (spec.core_size (sizes_of (rows_of bases.now)) core.now) (2 ^ 64 - 1) }
 {
     let mut size: usize = 1;
     'tables: for table in core.tables.as_slice() {
@@ -23,9 +23,9 @@ fn core_size<T: RowTest<Row>>(core: &Core, bases: &Instead<'_, T>) -> usize
     size
 }
 
-// The size of two answers together, or less.
+// The size of two answers together, or the greatest number where it is more.
 fn combined_size(op: SetOp, left: usize, right: usize) -> usize
-    ensures { result ≤ spec.combined_size op left right }
+    ensures { result ≡ min (spec.combined_size op left right) (2 ^ 64 - 1) }
 {
     match op {
         SetOp::Union => left.saturating_add(right),
@@ -33,9 +33,9 @@ fn combined_size(op: SetOp, left: usize, right: usize) -> usize
     }
 }
 
-// The size of the query over the bases, or less where that is a number too great.
+// The size of the query over the bases, or the greatest number where it is more.
 pub(crate) fn size_of<T: RowTest<Row>>(query: &Query, bases: &Instead<'_, T>) -> usize
-    ensures { result ≤ spec.query_size (sizes_of (rows_of bases.now)) query.now }
+    ensures { result ≡ min (spec.query_size (sizes_of (rows_of bases.now)) query.now) (2 ^ 64 - 1) }
 {
     let mut size = core_size(&query.first, bases);
     'rests: for rest in query.rest.as_slice() {
@@ -46,7 +46,7 @@ pub(crate) fn size_of<T: RowTest<Row>>(query: &Query, bases: &Instead<'_, T>) ->
 
 // Whether the rows that do not pass the sieve and so many more are no more than most.
 pub(crate) fn has_room(rel: &Rel<Row>, sieve: &Sieve<'_>, more: usize, most: usize) -> bool
-    ensures { IsTrue result → length (others (row_passes sieve.now) rel.now) + more ≤ most }
+    ensures { result ≡ nat_le (length (others (row_passes sieve.now) rel.now) + more) most }
 {
     if more > most {
         return false;

@@ -1,4 +1,4 @@
-use Rattle.std.proofs.Common.{◌≤◌, fold, take}
+use Rattle.std.proofs.Common.{◌≡◌, ◌-◌, ◌^◌, fold, min, take}
 use Rattle.og_query.specs.Sizes.{combined_size, core_size}
 use Rattle.og_exec.specs.Tables.{sizes_of}
 use Rattle.og_db.specs.Held.{rows_of}
@@ -6,4 +6,4 @@ use Rattle.og_view.proofs.sizes.size_of.Given as goal
 
 abbrev pub invariant-rests : goal.invariant-rests
 invariant-rests g l =
-    l.size ≤ fold (λ size rest. combined_size rest.op size (core_size (sizes_of (rows_of l.bases)) rest.core)) (core_size (sizes_of (rows_of l.bases)) l.query.first) (take l.rest-index l.rest-items)
+    l.size ≡ min (fold (λ size rest. combined_size rest.op size (core_size (sizes_of (rows_of l.bases)) rest.core)) (core_size (sizes_of (rows_of l.bases)) l.query.first) (take l.rest-index l.rest-items)) (2 ^ 64 - 1)

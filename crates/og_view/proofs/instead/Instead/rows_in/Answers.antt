@@ -10,6 +10,16 @@ use Rattle.og_view.proofs.PlacedLemmas.{rows_of-changed}
 use Rattle.og_view.proofs.TakenLemmas.{length-parted}
 use Rattle.og_view.proofs.instead.Instead.rows_in.Goals as goal
 
+pub returns-in_default : goal.returns-in_default
+returns-in_default g c =
+    let i = c.self.inside in
+    let name = c.args.name.now in
+    let rel = instead (g.T.RowTest.passes i.test.now) i.more.now in
+    let is : sizes_of (rows_of c.args.self.now) name ≡ 0 =
+    ap (λ db. sizes_of (rows_of db) name) (sym c.self.view_is)
+    ∙ ap size_or_none (rows_of-changed i.name.now rel i.bases.now name ∙ ap (option_map (λ own. if bytes_eq i.name.now name then rel own else own)) (ap (rows_of i.bases.now) (sym c.bytes.ensures) ∙ sym c.in_default.ensures)) in
+    omega (arith, is)
+
 pub returns-then-eq : goal.returns-then-eq
 returns-then-eq g c =
     let i = c.self.inside in

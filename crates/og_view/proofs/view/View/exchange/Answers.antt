@@ -1,6 +1,7 @@
 use Rattle.std.proofs.Common.{◌≡◌, ◌≤◌, ◌++◌, ℤ, OnOk, length, not, ap, subst, sym, ◌∙◌, arith}
 use Rattle.std.specs.List.Sorted.{IsPermutation}
 use Rattle.std.specs.List.{All}
+use Rattle.std.proofs.lemmas.Bool.{leb-true}
 use Rattle.std.proofs.lemmas.List.{length-append}
 use Rattle.std.proofs.lemmas.List.Sorted.{length_permutation}
 use Rattle.og_base.specs.Calendar.{IsRefDay}
@@ -51,7 +52,7 @@ invariant_of-self-in-Ok g c =
     let most : length (instead lets more result) ≤ query_size (sizes_of (rows_of bases)) query =
     subst (λ q. length (instead lets more result) ≤ query_size (sizes_of (rows_of bases)) q) c.query.ensures
     (subst (λ rel. length (others lets rel ++ more) ≤ query_size (sizes_of (rows_of bases)) c.query.result.now) c.rel.ensures
-    (omega (arith, length-append (others lets c.rel.result.now) more, c.len.ensures, c.has_room.ensures c.if-not-has_room.false, c.size_of-most.ensures))) in (
+    (omega (arith, length-append (others lets c.rel.result.now) more, c.len.ensures, leb-true _ c.size_of-most.result (sym c.has_room.ensures ∙ c.if-not-has_room.false), c.size_of-most.ensures))) in (
       subst (λ db. IsAnswered (seen query db now)) (c.new-over.ensures ∙ sym (subst (λ r. OnOk r (c.replace.new.self ≡ changed_at name (instead passes c.args.changed) old)) c.in-Ok.is c.replace.ensures.replaced)) (record {
         live = was.live;
         fits = fits;
