@@ -14,6 +14,7 @@ use Rattle.og_parse.specs.declared.refusal.ParseRefusal.{ParseRefusal}
 use Rattle.og_parse.specs.declared.refusal.ParseRefusal.TheVariants as parses
 use Rattle.og_words.specs.declared.command.WordsRefusal.{WordsRefusal}
 use Rattle.og_words.specs.declared.command.WordsRefusal.TheVariants as words
+use Rattle.og_faults.specs.Refusals.{Refused, by_checks, by_file, in_file, no_file}
 use Rattle.og_faults.specs.declared.fault.Fault.TheVariants as faults
 use Rattle.og_faults.specs.declared.stop.Stop.{Stop}
 use Rattle.og_faults.specs.declared.stop.Stop.TheVariants.{Fault, FileFault, WriteFault, NoMemory}
@@ -39,8 +40,14 @@ stop_of_parse parses.NoMemory = NoMemory
 
 -- of the checks of the statement with that number
 abbrev pub stop_of_check : ℕ → CheckRefusal → Stop
+stop_of_check n (checks.NoSuchName name) = Fault (faults.Check n (checks.NoSuchName name))
+stop_of_check n (checks.NameTaken name) = Fault (faults.Check n (checks.NameTaken name))
+stop_of_check n (checks.NoSuchColumn name) = Fault (faults.Check n (checks.NoSuchColumn name))
+stop_of_check n (checks.AmbiguousColumn name) = Fault (faults.Check n (checks.AmbiguousColumn name))
+stop_of_check n (checks.KindsDiffer found wanted) = Fault (faults.Check n (checks.KindsDiffer found wanted))
+stop_of_check n (checks.CountsDiffer found wanted) = Fault (faults.Check n (checks.CountsDiffer found wanted))
+stop_of_check n (checks.TooMany found limit) = Fault (faults.Check n (checks.TooMany found limit))
 stop_of_check n checks.NoMemory = NoMemory
-stop_of_check n refusal = Fault (faults.Check n refusal)
 
 -- of the words
 abbrev pub stop_of_words : WordsRefusal → Stop
@@ -58,3 +65,9 @@ stop_of_bytes n contents.Header = Fault (faults.Header n)
 stop_of_bytes n (contents.Cell number) = Fault (faults.Record n number)
 stop_of_bytes n (contents.RowCount said found) = Fault (faults.RowCount n said found)
 stop_of_bytes n contents.NoMemory = NoMemory
+
+-- of a statement with that number that is refused
+abbrev pub stop_of_refused : ℕ → Refused → Stop
+stop_of_refused n (by_checks refusal) = stop_of_check n refusal
+stop_of_refused n (by_file (no_file file)) = Fault (faults.NoFile n file)
+stop_of_refused n (by_file (in_file refusal)) = stop_of_bytes n refusal

@@ -1,9 +1,9 @@
 //! The texts of lines.
 ghost use Rattle.std.specs.Prelude.{◌≡◌, IfOk, string_bytes};
 ghost use Rattle.og_check.specs.declared.refusal.CheckRefusal.TheVariants as checks;
-ghost use Rattle.og_file.specs.declared.refusal.FileRefusal.TheVariants as files;
+ghost use Rattle.og_faults.specs.Faults.{fault_line};
 ghost use Rattle.og_faults.specs.Lines as spec;
-ghost use Rattle.og_faults.specs.Refusals.{in_file};
+ghost use Rattle.og_faults.specs.declared.fault.Fault.TheVariants as faults;
 
 use og_base::NoMemory;
 use og_check::CheckRefusal;
@@ -16,7 +16,7 @@ pub fn check_line(
     statement: usize,
     refusal: &CheckRefusal,
 ) -> Result<String, NoMemory>
-    ensures { IfOk result (λ line. string_bytes line ≡ spec.check_line statement refusal.now) }
+    ensures { IfOk result (λ line. string_bytes line ≡ fault_line (faults.Check statement refusal.now)) }
 {
     match refusal {
         CheckRefusal::NoSuchName { name } => {
@@ -90,7 +90,7 @@ fn kinds_line(
     found: Kind,
     wanted: Kind,
 ) -> Result<String, NoMemory>
-    ensures { IfOk result (λ line. string_bytes line ≡ spec.check_line statement (checks.KindsDiffer found wanted)) }
+    ensures { IfOk result (λ line. string_bytes line ≡ fault_line (faults.Check statement (checks.KindsDiffer found wanted))) }
 {
     let found = kind_word(found);
     let wanted = kind_word(wanted);
@@ -107,7 +107,7 @@ fn counts_line(
     found: usize,
     wanted: usize,
 ) -> Result<String, NoMemory>
-    ensures { IfOk result (λ line. string_bytes line ≡ spec.check_line statement (checks.CountsDiffer found wanted)) }
+    ensures { IfOk result (λ line. string_bytes line ≡ fault_line (faults.Check statement (checks.CountsDiffer found wanted))) }
 {
     let line = format!(in alloc;
         "fault counts differ statement {statement}: {found} for {wanted}\n"
@@ -122,7 +122,7 @@ fn many_line(
     found: usize,
     limit: usize,
 ) -> Result<String, NoMemory>
-    ensures { IfOk result (λ line. string_bytes line ≡ spec.check_line statement (checks.TooMany found limit)) }
+    ensures { IfOk result (λ line. string_bytes line ≡ fault_line (faults.Check statement (checks.TooMany found limit))) }
 {
     let line = format!(in alloc; "fault too many statement {statement}: {found} of {limit}\n")?;
     Ok(line)
@@ -130,7 +130,7 @@ fn many_line(
 
 /// The line where a record of a file is not of its form.
 pub fn record_line(alloc: Global, statement: usize, number: u64) -> Result<String, NoMemory>
-    ensures { IfOk result (λ line. string_bytes line ≡ spec.file_line statement (in_file (files.Cell number))) }
+    ensures { IfOk result (λ line. string_bytes line ≡ fault_line (faults.Record statement number)) }
 {
     let line = format!(in alloc; "fault record {number} statement {statement}\n")?;
     Ok(line)
@@ -138,7 +138,7 @@ pub fn record_line(alloc: Global, statement: usize, number: u64) -> Result<Strin
 
 /// The line where a file says another number of rows than it has.
 pub fn rows_line(alloc: Global, statement: usize, said: u64, found: u64) -> Result<String, NoMemory>
-    ensures { IfOk result (λ line. string_bytes line ≡ spec.file_line statement (in_file (files.RowCount said found))) }
+    ensures { IfOk result (λ line. string_bytes line ≡ fault_line (faults.RowCount statement said found)) }
 {
     let line = format!(in alloc;
         "fault row count statement {statement}: said {said} found {found}\n"

@@ -9,7 +9,10 @@ use Rattle.og_parse.specs.declared.refusal.ParseRefusal.{ParseRefusal}
 use Rattle.og_syntax.specs.declared.tree.Stmt.{Stmt}
 use Rattle.og_words.specs.declared.command.Command.{Command}
 use Rattle.og_words.specs.declared.command.Command.TheVariants as commands
-use Rattle.og_faults.specs.Lines.{too_long_line, lex_line, parse_line}
+use Rattle.og_faults.specs.Stops.{stop_of_lex, stop_of_parse}
+use Rattle.og_faults.specs.declared.fault.Fault.{Fault}
+use Rattle.og_faults.specs.declared.fault.Fault.TheVariants as faults
+use Rattle.og_faults.specs.declared.stop.Stop.TheVariants as stops
 use Rattle.og_script.specs.Commands.{at_script, load_script}
 
 -- the most bytes of a source
@@ -22,21 +25,21 @@ AreTrees source stmts = (tokens : List Token) × IsLexed source tokens × parser
 
 -- the source has tokens, and this is the first fault of their statements
 abbrev pub IsTreeFault : List ℕ → ParseRefusal → Type 0
-IsTreeFault source fault = (tokens : List Token) × IsLexed source tokens × parser.IsFirstFault source tokens fault
+IsTreeFault source refusal = (tokens : List Token) × IsLexed source tokens × parser.IsFirstFault source tokens refusal
 
 -- the source is this script
 pub record IsScript (source : List ℕ) (stmts : List Stmt) : Type 0 where
   pub short : length source ≤ max_source
   pub trees : AreTrees source stmts
 
--- the source is no script, and this is the line of its fault
-pub data IsScriptFault (source line : List ℕ) : Type 0 where
+-- the source is no script, and this is its fault
+pub data IsScriptFault (source : List ℕ) (fault : Fault) : Type 0 where
   -- it has too many bytes
-  too_long : max_source < length source → line ≡ too_long_line → IsScriptFault source line
+  too_long : max_source < length source → fault ≡ faults.SourceTooLong → IsScriptFault source fault
   -- it has no tokens
-  no_tokens : length source ≤ max_source → (fault : LexRefusal) → lexer.IsFirstFault source fault → line ≡ lex_line fault → IsScriptFault source line
+  no_tokens : length source ≤ max_source → (refusal : LexRefusal) → lexer.IsFirstFault source refusal → stop_of_lex refusal ≡ stops.Fault fault → IsScriptFault source fault
   -- its tokens have no tree
-  no_tree : length source ≤ max_source → (fault : ParseRefusal) → IsTreeFault source fault → line ≡ parse_line fault → IsScriptFault source line
+  no_tree : length source ≤ max_source → (refusal : ParseRefusal) → IsTreeFault source refusal → stop_of_parse refusal ≡ stops.Fault fault → IsScriptFault source fault
 
 -- the command runs these statements: those of the source, or those of its own script
 abbrev pub IsScriptOf : Command → List ℕ → List Stmt → Type 0

@@ -2,7 +2,7 @@
 use Rattle.std.specs.Prelude.{◌≡◌, ⊤, ℕ, List, Option, Some}
 use Rattle.og_words.specs.declared.command.Command.{Command}
 use Rattle.og_words.specs.declared.command.Command.TheVariants as commands
-use Rattle.og_faults.specs.Faults.{fault_line, fault_status}
+use Rattle.og_faults.specs.Faults.{fault_status}
 use Rattle.og_faults.specs.declared.fault.Fault.TheVariants as faults
 use Rattle.og_faults.specs.declared.stop.Stop.{Stop}
 use Rattle.og_faults.specs.declared.stop.Stop.TheVariants as stops
@@ -27,8 +27,11 @@ IsSourceOf command left source = IsRunCommand command → left ≡ Some source
 
 -- why a command has no statements to run: its source is no script, or failed, or memory ran out
 abbrev pub IsScriptStop : List ℕ → Stop → Type 0
-IsScriptStop source (stops.Fault fault) = IsScriptFault source (fault_line fault)
-IsScriptStop source _ = ⊤
+IsScriptStop source (stops.Fault fault) = IsScriptFault source fault
+IsScriptStop source stops.ReadFault = ⊤
+IsScriptStop source stops.FileFault = ⊤
+IsScriptStop source stops.WriteFault = ⊤
+IsScriptStop source stops.NoMemory = ⊤
 
 -- and what else is known of it
 abbrev pub IsStopBefore : Command → Stop → Type 0

@@ -17,9 +17,9 @@ use Rattle.og_faults.specs.Refusals.{FileFault, Refused, by_file}
 use Rattle.og_words.specs.declared.command.Command.{Command}
 use Rattle.og_words.specs.declared.command.WordsRefusal.{WordsRefusal}
 use Rattle.og_words.specs.declared.command.WordsRefusal.TheVariants as words
-use Rattle.og_faults.specs.Faults.{fault_line}
-use Rattle.og_faults.specs.Lines.{words_line}
 use Rattle.og_faults.specs.Stops.{stop_of_put, stop_of_words}
+use Rattle.og_faults.specs.declared.fault.Fault.{Fault}
+use Rattle.og_faults.specs.declared.fault.Fault.TheVariants as faults
 use Rattle.og_faults.specs.declared.stop.Stop.{Stop}
 use Rattle.og_faults.specs.declared.stop.Stop.TheVariants as stops
 use Rattle.og_io.specs.declared.sink.PutRefusal.{PutRefusal}
@@ -164,16 +164,16 @@ module _ (run : Run) (start : Folder) (db : List (Held Relation)) (folder : Opti
 
 module _ (run : Run) (start : Folder) (db : List (Held Relation)) (folder : Option Folder) (calls : ℕ) (state : IsStateOf start [] db folder) where
   -- words that are no command
-  pub words-ask : (refusal : WordsRefusal) → (refusal ≡ words.NoCommand → run ≡ refused words_line 2) → RunAsks run start db folder calls calls (Err (stop_of_words refusal))
+  pub words-ask : (refusal : WordsRefusal) → (refusal ≡ words.NoCommand → run ≡ refused faults.Words) → RunAsks run start db folder calls calls (Err (stop_of_words refusal))
   unfolding none-counted
   words-ask words.NoCommand is = (none-counted run start db folder calls calls state refl, ap (λ r. r.done) (is refl))
   words-ask words.NoMemory is = none-counted run start db folder calls calls state refl
 
   -- a source that is no script
   pub script-asks : (command : Command) (source : List ℕ) (stop : Stop) → IsStopBefore command stop → IsScriptStop source stop
-      → ((line : List ℕ) → IsRunCommand command → IsScriptFault source line → run ≡ refused line 3) → RunAsks run start db folder calls calls (Err stop)
+      → ((fault : Fault) → IsRunCommand command → IsScriptFault source fault → run ≡ refused fault) → RunAsks run start db folder calls calls (Err stop)
   unfolding none-counted
-  script-asks command source (stops.Fault fault) before fault' is = (none-counted run start db folder calls calls state refl, ap (λ r. r.done) (is (fault_line fault) before.0 fault'))
+  script-asks command source (stops.Fault fault) before fault' is = (none-counted run start db folder calls calls state refl, ap (λ r. r.done) (is fault before.0 fault'))
   script-asks command source stops.ReadFault before h is = none-counted run start db folder calls calls state refl
   script-asks command source stops.FileFault before h is = absurd before
   script-asks command source stops.WriteFault before h is = absurd before

@@ -16,8 +16,7 @@ use Rattle.og_words.specs.declared.command.WordsRefusal.TheVariants as refusals
 use Rattle.og_db.specs.Database.{Relation}
 use Rattle.og_db.specs.Held.{Held}
 use Rattle.og_faults.specs.Counts.{IsAbsenceCount, IsFaultCount, is_file_fault, is_read_fault, is_write_fault}
-use Rattle.og_faults.specs.Faults.{fault_line, fault_status, status_of}
-use Rattle.og_faults.specs.Lines.{words_line}
+use Rattle.og_faults.specs.Faults.{fault_line, fault_status, line_of, status_of}
 use Rattle.og_faults.specs.Stops.{stop_of_put, stop_of_words}
 use Rattle.og_faults.specs.declared.fault.Fault.{Fault}
 use Rattle.og_faults.specs.declared.fault.Fault.TheVariants as faults
@@ -37,22 +36,21 @@ use Rattle.og_session.proofs.StopLemmas.{early, one_of_three}
 module _ (run : Run) (start : Folder) (db : List (Held Relation)) (folder : Option Folder) (state : IsStateOf start [] db folder) where
   -- a run that was cut short before its first statement
   pub cut_first : IsCutShort run start db folder []
-  cut_first = record { cut = record { before = []; after = run.done; front = []; parts = refl; written = refl; begun = (next_piece [] run.done run.line, refl) }; state = state }
+  cut_first = record { cut = record { before = []; after = run.done; front = []; parts = refl; written = refl; begun = (next_piece [] run.done (line_of run.end), refl) }; state = state }
 
   -- a run that carries out no statement
-  refused_ends : (fault : Fault) → run ≡ refused (fault_line fault) (fault_status fault) → EndsUnreported run start db folder [] (Err (stops.Fault fault))
-  refused_ends fault is = subst (λ r. EndsUnreported r start db folder [] (Err (stops.Fault fault))) (sym is) (record { written = refl; state = state; last = refl; ended = refl })
+  refused_ends : (fault : Fault) → run ≡ refused fault → EndsUnreported run start db folder [] (Err (stops.Fault fault))
+  refused_ends fault is = subst (λ r. EndsUnreported r start db folder [] (Err (stops.Fault fault))) (sym is) (record { ended = refl; written = refl; state = state })
 
   -- words that are no command
-  pub words_end : (refusal : WordsRefusal) → (refusal ≡ refusals.NoCommand → run ≡ refused words_line 2) → EndsUnreported run start db folder [] (Err (stop_of_words refusal))
+  pub words_end : (refusal : WordsRefusal) → (refusal ≡ refusals.NoCommand → run ≡ refused faults.Words) → EndsUnreported run start db folder [] (Err (stop_of_words refusal))
   words_end refusals.NoCommand is = refused_ends faults.Words (is refl)
   words_end refusals.NoMemory is = cut_first
 
   -- a source that is no script
   pub script_end : (command : Command) (source : List ℕ) (stop : Stop) → IsStopBefore command stop → IsScriptStop source stop
-      → ((line : List ℕ) → IsRunCommand command → IsScriptFault source line → run ≡ refused line 3) → EndsUnreported run start db folder [] (Err stop)
-  script_end command source (stops.Fault fault) before fault' is =
-      refused_ends fault (is (fault_line fault) before.0 fault' ∙ ap (refused (fault_line fault)) (sym before.1))
+      → ((fault : Fault) → IsRunCommand command → IsScriptFault source fault → run ≡ refused fault) → EndsUnreported run start db folder [] (Err stop)
+  script_end command source (stops.Fault fault) before fault' is = refused_ends fault (is fault before.0 fault')
   script_end command source stops.ReadFault before h is = refl
   script_end command source stops.FileFault before h is = absurd before
   script_end command source stops.WriteFault before h is = absurd before
@@ -72,12 +70,12 @@ run_command words command one is (workers, given) = subst IsRunCommand (one (com
 -- a status that is stopped by the sink or for memory says nothing of words or script
 module _ (words : List (List ℕ)) (left : Option (List ℕ)) where
   pub end_unput : (refusal : PutRefusal) → IsEndOf words left (Err (stop_of_put refusal))
-  end_unput puts.Failed = record { no_command = λ no. (1, omega arith, refl); command = λ e. absurd (omega (arith, e)); run = λ e. absurd (omega (arith, e)); no_script = λ source line is told h. (2, omega arith, refl); script = λ source told e. absurd (omega (arith, e)) }
-  end_unput puts.NoMemory = record { no_command = λ no. (2, omega arith, refl); command = λ e. absurd (omega (arith, e)); run = λ e. absurd (omega (arith, e)); no_script = λ source line is told h. (3, omega arith, refl); script = λ source told e. absurd (omega (arith, e)) }
+  end_unput puts.Failed = record { no_command = λ no. (1, omega arith, refl); command = λ e. absurd (omega (arith, e)); run = λ e. absurd (omega (arith, e)); no_script = λ source fault is told h. (2, omega arith, refl); script = λ source told e. absurd (omega (arith, e)) }
+  end_unput puts.NoMemory = record { no_command = λ no. (2, omega arith, refl); command = λ e. absurd (omega (arith, e)); run = λ e. absurd (omega (arith, e)); no_script = λ source fault is told h. (3, omega arith, refl); script = λ source told e. absurd (omega (arith, e)) }
 
   pub end_words : (refusal : WordsRefusal) → (refusal ≡ refusals.NoCommand → IsNoCommand words) → IsEndOf words left (Err (stop_of_words refusal))
-  end_words refusals.NoCommand none = record { no_command = λ no. (0, omega arith, refl); command = λ e. none refl; run = λ e. absurd (omega (arith, e)); no_script = λ source line is told h. absurd (none refl (commands.Run is.0) is.1); script = λ source told e. absurd (omega (arith, e)) }
-  end_words refusals.NoMemory none = record { no_command = λ no. (2, omega arith, refl); command = λ e. absurd (omega (arith, e)); run = λ e. absurd (omega (arith, e)); no_script = λ source line is told h. (3, omega arith, refl); script = λ source told e. absurd (omega (arith, e)) }
+  end_words refusals.NoCommand none = record { no_command = λ no. (0, omega arith, refl); command = λ e. none refl; run = λ e. absurd (omega (arith, e)); no_script = λ source fault is told h. absurd (none refl (commands.Run is.0) is.1); script = λ source told e. absurd (omega (arith, e)) }
+  end_words refusals.NoMemory none = record { no_command = λ no. (2, omega arith, refl); command = λ e. absurd (omega (arith, e)); run = λ e. absurd (omega (arith, e)); no_script = λ source fault is told h. (3, omega arith, refl); script = λ source told e. absurd (omega (arith, e)) }
 
   module _ (command : Command) (is : IsCommand words command) where
     some_command : {A : Type 0} → IsNoCommand words → A
@@ -88,14 +86,14 @@ module _ (words : List (List ℕ)) (left : Option (List ℕ)) where
       no_command = some_command;
       command = λ e. absurd (omega (arith, e, before.1));
       run = λ e. absurd (omega (arith, e, before.1));
-      no_script = λ source line run told f. subst (Contains (3 ∷ 6 ∷ 8 ∷ 9 ∷ [])) (sym before.1) (0, omega arith, refl);
-      script = λ source told e. (run_words words command is before.0, fault_line fault, h source told);
+      no_script = λ source fault run told f. subst (Contains (3 ∷ 6 ∷ 8 ∷ 9 ∷ [])) (sym before.1) (0, omega arith, refl);
+      script = λ source told e. (run_words words command is before.0, fault, h source told);
     }
     end_script stops.ReadFault before h = record {
       no_command = some_command;
       command = λ e. absurd (omega (arith, e));
       run = λ e. run_words words command is before;
-      no_script = λ source line run told f. (1, omega arith, refl);
+      no_script = λ source fault run told f. (1, omega arith, refl);
       script = λ source told e. absurd (omega (arith, e));
     }
     end_script stops.FileFault before h = absurd before
@@ -104,17 +102,17 @@ module _ (words : List (List ℕ)) (left : Option (List ℕ)) where
       no_command = some_command;
       command = λ e. absurd (omega (arith, e));
       run = λ e. absurd (omega (arith, e));
-      no_script = λ source line run told f. (3, omega arith, refl);
+      no_script = λ source fault run told f. (3, omega arith, refl);
       script = λ source told e. absurd (omega (arith, e));
     }
 
     -- statements that were run end with none of the statuses before them
-    pub end_late : (end : Result (Unit {0}) Stop) → (EndsWith (2 ∷ 3 ∷ 6 ∷ []) end → ⊥) → ((source line : List ℕ) → IsRun words → left ≡ Some source → IsScriptFault source line → ⊥) → IsEndOf words left end
+    pub end_late : (end : Result (Unit {0}) Stop) → (EndsWith (2 ∷ 3 ∷ 6 ∷ []) end → ⊥) → ((source : List ℕ) (fault : Fault) → IsRun words → left ≡ Some source → IsScriptFault source fault → ⊥) → IsEndOf words left end
     end_late end late none = record {
       no_command = some_command;
       command = λ e. absurd (late (subst (Contains (2 ∷ 3 ∷ 6 ∷ [])) (sym e) (0, omega arith, refl)));
       run = λ e. absurd (late (subst (Contains (2 ∷ 3 ∷ 6 ∷ [])) (sym e) (2, omega arith, refl)));
-      no_script = λ source line run told f. absurd (none source line run told f);
+      no_script = λ source fault run told f. absurd (none source fault run told f);
       script = λ source told e. absurd (late (subst (Contains (2 ∷ 3 ∷ 6 ∷ [])) (sym e) (1, omega arith, refl)));
     }
 
@@ -174,7 +172,7 @@ module _ (run : Run) (start : Folder) (db : List (Held Relation)) (folder : Opti
   pub unfaulted : (old new : Option (List ℕ)) (end : Result (Unit {0}) Stop) → ((fault : Fault) → end ≡ Err (stops.Fault fault) → ⊥)
       → (text : List ℕ) × Appends old new text × EndsUnreported run start db folder text end → (text : List ℕ) × Appends old new text × Ends run start db folder text end
   unfaulted old new (Ok done) none (text, appended, h) =
-      (text, appended, record { ended = h.ended; last = h.last; written = h.written ∙ sym (ap (λ l. output_from [] run.done ++ l) h.last ∙ append-nil (output_from [] run.done)); state = h.state })
+      (text, appended, record { ended = h.ended; written = h.written ∙ sym (ap (λ e. output_from [] run.done ++ line_of e) h.ended ∙ append-nil (output_from [] run.done)); state = h.state })
   unfaulted old new (Err (stops.Fault fault)) none h = absurd (none fault refl)
   unfaulted old new (Err stops.ReadFault) none h = h
   unfaulted old new (Err stops.FileFault) none h = h
@@ -187,7 +185,7 @@ module _ (run : Run) (start : Folder) (db : List (Held Relation)) (folder : Opti
     reported line = let (text, appended, h) = before in (
       text ++ fault_line fault,
       Appends-trans old mid new text (fault_line fault) appended line,
-      record { ended = h.ended; last = h.last; written = ap (λ t. t ++ fault_line fault) h.written ∙ ap (λ l. output_from [] run.done ++ l) (sym h.last); state = h.state },
+      record { ended = h.ended; written = ap (λ t. t ++ fault_line fault) h.written ∙ ap (λ e. output_from [] run.done ++ line_of e) (sym h.ended); state = h.state },
     )
 
     -- a front of it was written
@@ -199,7 +197,7 @@ module _ (run : Run) (start : Folder) (db : List (Held Relation)) (folder : Opti
         front = front;
         parts = sym (append-nil run.done);
         written = ap (λ t. t ++ front) h.written;
-        begun = subst (IsPrefix front) (sym h.last) prefix;
+        begun = subst (IsPrefix front) (sym (ap line_of h.ended)) prefix;
       };
       state = h.state;
     }
@@ -207,7 +205,7 @@ module _ (run : Run) (start : Folder) (db : List (Held Relation)) (folder : Opti
     pub unsaid : (refusal : PutRefusal) → IsPut mid new (fault_line fault) (Err refusal) → (text : List ℕ) × Appends old new text × Ends run start db folder text (Err (stop_of_put refusal))
     unfolding cut_line
     unsaid puts.Failed ((front, prefix, line), some) =
-        (before.0 ++ front, Appends-trans old mid new before.0 front before.1 line, record { short = cut_line front prefix; some = λ e. some (sym before.2.last ∙ e) })
+        (before.0 ++ front, Appends-trans old mid new before.0 front before.1 line, record { short = cut_line front prefix; some = λ e. some (sym (ap line_of before.2.ended) ∙ e) })
     unsaid puts.NoMemory (front, prefix, line) = (before.0 ++ front, Appends-trans old mid new before.0 front before.1 line, cut_line front prefix)
 
 -- a count of absences never falls

@@ -1,5 +1,5 @@
 -- What a run leaves beside its output.
-use Rattle.std.proofs.Common.{◌≡◌, inl, ℕ, List, Option, Result, Err, refl, subst}
+use Rattle.std.proofs.Common.{◌≡◌, ◌∙◌, inl, ℕ, List, Option, Result, Err, refl, subst, sym}
 use Rattle.og_io.specs.Folders.{Folder}
 use Rattle.og_io.specs.declared.sink.PutRefusal.{PutRefusal}
 use Rattle.og_io.specs.declared.sink.PutRefusal.TheVariants as puts
@@ -7,7 +7,6 @@ use Rattle.og_words.specs.declared.command.WordsRefusal.{WordsRefusal}
 use Rattle.og_words.specs.declared.command.WordsRefusal.TheVariants as refusals
 use Rattle.og_db.specs.Database.{Relation}
 use Rattle.og_db.specs.Held.{Held}
-use Rattle.og_faults.specs.Faults.{fault_line}
 use Rattle.og_faults.specs.Stops.{stop_of_put, stop_of_words}
 use Rattle.og_faults.specs.declared.fault.Fault.{Fault}
 use Rattle.og_faults.specs.declared.stop.Stop.{Stop}
@@ -24,7 +23,7 @@ pub kept_put : (source script : List ℕ) (refusal : PutRefusal) → IsKeptAt so
 kept_put source script puts.Failed = tt
 kept_put source script puts.NoMemory = tt
 
--- the fault that ended a run has its last line
-pub last_line : (run : Run) (start : Folder) (db : List (Held Relation)) (folder : Option Folder) (text : List ℕ) (end : Result (Unit {0}) Stop) (fault : Fault)
-    → Ends run start db folder text end → end ≡ Err (stops.Fault fault) → run.line ≡ fault_line fault
-last_line run start db folder text end fault ends is = (subst (Ends run start db folder text) is ends).last
+-- the fault that ended a run is the one with which the defined run ends
+pub same_end : (run : Run) (start : Folder) (db : List (Held Relation)) (folder : Option Folder) (text : List ℕ) (end : Result (Unit {0}) Stop) (fault : Fault)
+    → Ends run start db folder text end → end ≡ Err (stops.Fault fault) → run.end ≡ end
+same_end run start db folder text end fault ends is = (subst (Ends run start db folder text) is ends).ended ∙ sym is

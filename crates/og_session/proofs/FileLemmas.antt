@@ -151,9 +151,9 @@ under start folder contents files sizes file whole held within =
 module _ (start : Folder) (n : ℕ) (before : List Effect) (outcome : Result Effect Refused) (db : Watched) (folder : Option Folder) (state : IsLeft start before db folder) where
   -- a statement that is refused for its file, which has this fault
   bad_file : (fault : FileRefusal) → fault ≢ refused.NoMemory → outcome ≡ Err (by_file (in_file fault)) → StepEnds start n before outcome db folder [] (Err (stop_of_bytes n fault))
-  bad_file refused.Header some is = (by_file (in_file refused.Header), is, record { line = refl; status = refl }, state, refl)
-  bad_file (refused.Cell number) some is = (by_file (in_file (refused.Cell number)), is, record { line = refl; status = refl }, state, refl)
-  bad_file (refused.RowCount said found) some is = (by_file (in_file (refused.RowCount said found)), is, record { line = refl; status = refl }, state, refl)
+  bad_file refused.Header some is = (by_file (in_file refused.Header), is, refl, state, refl)
+  bad_file (refused.Cell number) some is = (by_file (in_file (refused.Cell number)), is, refl, state, refl)
+  bad_file (refused.RowCount said found) some is = (by_file (in_file (refused.RowCount said found)), is, refl, state, refl)
   bad_file refused.NoMemory some is = absurd (some refl)
 
   -- a fault of a file, or want of memory while it was read
@@ -225,7 +225,7 @@ module _ (start : Folder) (contents : Contents) (whole : AreContents start conte
   stays db' is = record { files = state.files; names = db.names; held = same_files start state.files no_name old new same state.held_files; world = state.running.world; left = is }
 
   -- where the files failed
-  unread : (outcome : Result Effect Refused) → IsOfFile outcome → StepEnds start n before outcome db new [] (Err stops.FileFault)
+  unread : (outcome : Result Effect Refused) → IsOfFile n outcome → StepEnds start n before outcome db new [] (Err stops.FileFault)
   unread outcome is = (is, record { files = state.files; names = db.names; held = same_files start state.files (is_saved_by outcome) old new same state.held_files; world = state.running.world; left = refl }, refl)
 
   -- what is known of a name with these bytes, or without a file
@@ -245,17 +245,21 @@ module _ (start : Folder) (contents : Contents) (whole : AreContents start conte
   opens = taken (effect_of contents before (t.OpenFile name file))
 
   -- which is asked of a file
-  open_asks : IsOfFile opens
-  open_asks = at (found (sizes_after before).files file) (contents file)
+  open_asks : IsOfFile n opens
+  open_asks = at (found (sizes_after before).files file) (start file) (contents file) (whole file)
     where
-      by : (r : Result (List Column × List Pair) FileRefusal) → IsOfFile (taken (opening_of name r))
-      by (Ok table) = tt
-      by (Err fault) = tt
+      by : (bytes : List ℕ) (r : Result (List Column × List Pair) FileRefusal) → IsSavedContent bytes r → IsOfFile n (taken (opening_of name r))
+      by bytes (Ok table) is = tt
+      by bytes (Err refused.Header) is = refl
+      by bytes (Err (refused.Cell number)) is = refl
+      by bytes (Err (refused.RowCount said found)) is = refl
+      by bytes (Err refused.NoMemory) is = absurd (is.0 refl)
 
-      at : (o : Option (Held ℕ)) (c : Option Content) → IsOfFile (taken (opening name file o c))
-      at (Some m) c = tt
-      at None None = tt
-      at None (Some content) = by content.saved
+      at : (o : Option (Held ℕ)) (s : Option (List ℕ)) (c : Option Content) → IsHeld s c → IsOfFile n (taken (opening name file o c))
+      at (Some m) s c holds = tt
+      at None s None holds = refl
+      at None None (Some content) holds = absurd holds
+      at None (Some bytes) (Some content) holds = by bytes content.saved holds.saved
 
   -- the file was not read
   pub open-unread : (refusal : FilesRefusal) → StepEnds start n before opens db new [] (Err (stop_of_files refusal))
@@ -270,7 +274,7 @@ module _ (start : Folder) (contents : Contents) (whole : AreContents start conte
       by folder is (was_saved h found_is m size bytes now version) = cc (is, now)
       by folder is (was_there none bytes now content holds _) = cc (is, now)
       by folder is (was_absent none now content) =
-          (by_file (no_file file), ap₂ (λ o c. taken (opening name file o c)) none content, record { line = refl; status = refl }, stays db refl, refl)
+          (by_file (no_file file), ap₂ (λ o c. taken (opening name file o c)) none content, refl, stays db refl, refl)
 
   module _ (laws : SavedFiles) (bytes : List ℕ) (has : HasFile old file (Some bytes)) where
     -- the file was read and kept
@@ -337,17 +341,21 @@ module _ (start : Folder) (contents : Contents) (whole : AreContents start conte
   imports = taken (effect_of contents before (t.ImportFile name file))
 
   -- which is asked of a file
-  import_asks : IsOfFile imports
-  import_asks = at (found (sizes_after before).files file) (contents file)
+  import_asks : IsOfFile n imports
+  import_asks = at (found (sizes_after before).files file) (start file) (contents file) (whole file)
     where
-      by : (r : Result (List (List Value)) FileRefusal) → IsOfFile (taken (importing_of name r))
-      by (Ok rows) = tt
-      by (Err fault) = tt
+      by : (columns : List Column) (bytes : List ℕ) (r : Result (List (List Value)) FileRefusal) → IsTableContent columns bytes r → IsOfFile n (taken (importing_of name r))
+      by columns bytes (Ok rows) is = tt
+      by columns bytes (Err refused.Header) is = refl
+      by columns bytes (Err (refused.Cell number)) is = refl
+      by columns bytes (Err (refused.RowCount said found)) is = refl
+      by columns bytes (Err refused.NoMemory) is = absurd (is.0 refl)
 
-      at : (o : Option (Held ℕ)) (c : Option Content) → IsOfFile (taken (importing name (columns_after before name) file o c))
-      at (Some m) c = tt
-      at None None = tt
-      at None (Some content) = by (content.rows (columns_after before name))
+      at : (o : Option (Held ℕ)) (s : Option (List ℕ)) (c : Option Content) → IsHeld s c → IsOfFile n (taken (importing name (columns_after before name) file o c))
+      at (Some m) s c holds = refl
+      at None s None holds = refl
+      at None None (Some content) holds = absurd holds
+      at None (Some bytes) (Some content) holds = by (columns_after before name) bytes (content.rows (columns_after before name)) (holds.rows (columns_after before name))
 
   -- the file was not read
   pub import-unread : (refusal : FilesRefusal) → StepEnds start n before imports db new [] (Err (stop_of_files refusal))
@@ -362,7 +370,7 @@ module _ (start : Folder) (contents : Contents) (whole : AreContents start conte
       by folder is (was_saved h found_is m size bytes now version) = cc (is, now)
       by folder is (was_there none bytes now content holds _) = cc (is, now)
       by folder is (was_absent none now content) =
-          (by_file (no_file file), ap₂ (λ o c. taken (importing name (columns_after before name) file o c)) none content, record { line = refl; status = refl }, stays db refl, refl)
+          (by_file (no_file file), ap₂ (λ o c. taken (importing name (columns_after before name) file o c)) none content, refl, stays db refl, refl)
 
   module _ (laws : TableFiles) (columns : List Column) (words : All (λ c. IsLowerWord c.name) columns) (are : columns_after before name ≡ columns) (bytes : List ℕ) (has : HasFile old file (Some bytes)) where
     -- what the IMPORT of a file does that was there at the start

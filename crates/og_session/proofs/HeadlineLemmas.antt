@@ -1,5 +1,5 @@
 -- The clauses of the headline, from how the run ends.
-use Rattle.std.proofs.Common.{◌≡◌, ◌++◌, ◌+◌, ◌⊎◌, ◌≤◌, inl, inr, ℕ, Bool, true, false, List, [], ◌∷◌, get_or, Some, OnOk, Result, Ok, Err, refl, sym, ap, ◌∙◌, subst, arith}
+use Rattle.std.proofs.Common.{◌≡◌, ◌++◌, ◌+◌, ◌⊎◌, ◌≤◌, inl, inr, ℕ, Bool, true, false, List, [], ◌∷◌, Some, OnOk, Result, Ok, Err, refl, sym, ap, ◌∙◌, subst, arith}
 use Rattle.std.specs.List.{Contains}
 use Rattle.std.specs.Io.KnownBytes.{Appends}
 use Rattle.std.proofs.lemmas.List.{append-nil, append_assoc}
@@ -9,8 +9,7 @@ use Rattle.og_io.specs.Folders.{Folder}
 use Rattle.og_io.specs.Sources.{TakesAtMost, max_part}
 use Rattle.og_db.specs.Effects.{Effect}
 use Rattle.og_faults.specs.Counts.{IsAbsenceCount, IsFaultCount, is_file_fault, is_read_fault, is_write_fault}
-use Rattle.og_faults.specs.Faults.{fault_line, fault_status, status_of}
-use Rattle.og_faults.specs.Lines.{no_file_line}
+use Rattle.og_faults.specs.Faults.{fault_status, line_of, status_of}
 use Rattle.og_faults.specs.declared.fault.Fault.{Fault}
 use Rattle.og_faults.specs.declared.fault.Fault.TheVariants as faults
 use Rattle.og_faults.specs.declared.stop.Stop.{Stop}
@@ -39,13 +38,13 @@ next_front before (e ∷ es) line = (output_from (before ++ e ∷ []) es ++ line
 -- what was written of a run that was cut short is a front of its output
 cut_front : (run : Run) (text : List ℕ) → IsCut run text → IsPrefix text (output run)
 cut_front run text cut =
-    let next = next_front cut.before cut.after run.line in
+    let next = next_front cut.before cut.after (line_of run.end) in
     let rest = cut.begun.0 ++ next.0 in
-    let left : output_from cut.before cut.after ++ run.line ≡ cut.front ++ rest = next.1 ∙ ap (λ t. t ++ next.0) cut.begun.1 ∙ append_assoc cut.front cut.begun.0 next.0 in (
+    let left : output_from cut.before cut.after ++ line_of run.end ≡ cut.front ++ rest = next.1 ∙ ap (λ t. t ++ next.0) cut.begun.1 ∙ append_assoc cut.front cut.begun.0 next.0 in (
       rest,
-      ap (λ l. output_from [] l ++ run.line) cut.parts
-          ∙ ap (λ t. t ++ run.line) (output_from-append [] cut.before cut.after)
-          ∙ append_assoc (output_from [] cut.before) (output_from cut.before cut.after) run.line
+      ap (λ l. output_from [] l ++ line_of run.end) cut.parts
+          ∙ ap (λ t. t ++ line_of run.end) (output_from-append [] cut.before cut.after)
+          ∙ append_assoc (output_from [] cut.before) (output_from cut.before cut.after) (line_of run.end)
           ∙ ap (λ t. output_from [] cut.before ++ t) left
           ∙ sym (append_assoc (output_from [] cut.before) cut.front rest)
           ∙ ap (λ t. t ++ rest) (sym cut.written),
@@ -101,22 +100,6 @@ fault_answer (faults.Header n) = (4, omega arith, refl)
 fault_answer (faults.Record n number) = (4, omega arith, refl)
 fault_answer (faults.RowCount n said found) = (4, omega arith, refl)
 
--- a line of another fault of a file is none of a file that is not there: they differ in their seventh byte
-absent_line : (fault : Fault) (n : ℕ) (file : List ℕ) (old new : ℕ) → fault_status fault ≡ 5 → no_file_line n file ≡ fault_line fault → IsAbsenceCount {T = Unit {0}} (Err (stops.Fault fault)) old new → Rose old new
-absent_line faults.Words n file old new five e h = absurd (omega (arith, five))
-absent_line faults.SourceTooLong n file old new five e h = absurd (omega (arith, five))
-absent_line (faults.BadByte k) n file old new five e h = absurd (omega (arith, five))
-absent_line (faults.OpenText k) n file old new five e h = absurd (omega (arith, five))
-absent_line (faults.NumberRange k) n file old new five e h = absurd (omega (arith, five))
-absent_line (faults.Syntax k) n file old new five e h = absurd (omega (arith, five))
-absent_line (faults.TooDeep k) n file old new five e h = absurd (omega (arith, five))
-absent_line (faults.Literal k) n file old new five e h = absurd (omega (arith, five))
-absent_line (faults.Check k refusal) n file old new five e h = absurd (omega (arith, five))
-absent_line (faults.NoFile k other) n file old new five e h = h.1
-absent_line (faults.Header k) n file old new five e h = let seventh : 110 ≡ 104 = ap (λ t. get_or t 6 0) e in absurd (omega (arith, seventh))
-absent_line (faults.Record k number) n file old new five e h = let seventh : 110 ≡ 114 = ap (λ t. get_or t 6 0) e in absurd (omega (arith, seventh))
-absent_line (faults.RowCount k said found) n file old new five e h = let seventh : 110 ≡ 114 = ap (λ t. get_or t 6 0) e in absurd (omega (arith, seventh))
-
 -- a status of a device or of memory is greater
 big : (n : ℕ) → Contains (6 ∷ 7 ∷ 8 ∷ 9 ∷ []) n → n ≤ 5 → ⊥
 big n h small = by_six (Contains-cons_cases 6 n (7 ∷ 8 ∷ 9 ∷ []) h)
@@ -139,16 +122,16 @@ module _ (call : Call) (end : Result (Unit {0}) Stop) (is : call.status ≡ stat
 
   module _ (run : Run) (start : Folder) (text : List ℕ) where
     -- the status is that of the run, or it was stopped
-    ended : Ends run start call.db call.folder_after text end → IsStopped call ⊎ ((run.status ≡ call.status) × (text ≡ output run) × IsStateOf start run.done call.db call.folder_after)
+    ended : Ends run start call.db call.folder_after text end → IsStopped call ⊎ ((status_of run.end ≡ call.status) × (text ≡ output run) × IsStateOf start run.done call.db call.folder_after)
     ended = by end is
       where
-        whole : (line : List ℕ) (status : ℕ) → call.status ≡ status → IsWhole run start call.db call.folder_after text line status → (run.status ≡ call.status) × (text ≡ output run) × IsStateOf start run.done call.db call.folder_after
-        whole line status e h = (h.ended ∙ sym e, h.written, h.state)
+        whole : (r : Result (Unit {0}) Stop) → call.status ≡ status_of r → IsWhole run start call.db call.folder_after text r → (status_of run.end ≡ call.status) × (text ≡ output run) × IsStateOf start run.done call.db call.folder_after
+        whole r e h = (ap status_of h.ended ∙ sym e, h.written, h.state)
 
         by : (r : Result (Unit {0}) Stop) → call.status ≡ status_of r → Ends run start call.db call.folder_after text r
-            → IsStopped call ⊎ ((run.status ≡ call.status) × (text ≡ output run) × IsStateOf start run.done call.db call.folder_after)
-        by (Ok done) e h = inr (whole [] 0 e h)
-        by (Err (stops.Fault fault)) e h = inr (whole (fault_line fault) (fault_status fault) e h)
+            → IsStopped call ⊎ ((status_of run.end ≡ call.status) × (text ≡ output run) × IsStateOf start run.done call.db call.folder_after)
+        by (Ok done) e h = inr (whole (Ok tt) e h)
+        by (Err (stops.Fault fault)) e h = inr (whole (Err (stops.Fault fault)) e h)
         by (Err stops.ReadFault) e h = inl (subst (Contains (6 ∷ 7 ∷ 8 ∷ 9 ∷ [])) (sym e) (0, omega arith, refl))
         by (Err stops.FileFault) e h = inl (subst (Contains (6 ∷ 7 ∷ 8 ∷ 9 ∷ [])) (sym e) (1, omega arith, refl))
         by (Err stops.WriteFault) e h = inl (subst (Contains (6 ∷ 7 ∷ 8 ∷ 9 ∷ [])) (sym e) (2, omega arith, refl))
@@ -168,13 +151,13 @@ module _ (call : Call) (end : Result (Unit {0}) Stop) (is : call.status ≡ stat
 
     -- and all of it, or nothing, unless the run was stopped
     all_or_none : (source : List ℕ) → IsDefined call source start run → Ends run start call.db call.folder_after text end
-        → IsOneOf call (7 ∷ 8 ∷ 9 ∷ []) ⊎ ((call.status ≡ 6) × (text ≡ []) ⊎ ((run : Run) × IsDefined call source start run × (run.status ≡ call.status) × (text ≡ output run)))
+        → IsOneOf call (7 ∷ 8 ∷ 9 ∷ []) ⊎ ((call.status ≡ 6) × (text ≡ []) ⊎ ((run : Run) × IsDefined call source start run × (status_of run.end ≡ call.status) × (text ≡ output run)))
     all_or_none source defined = by end is
       where
         by : (r : Result (Unit {0}) Stop) → call.status ≡ status_of r → Ends run start call.db call.folder_after text r
-            → IsOneOf call (7 ∷ 8 ∷ 9 ∷ []) ⊎ ((call.status ≡ 6) × (text ≡ []) ⊎ ((run : Run) × IsDefined call source start run × (run.status ≡ call.status) × (text ≡ output run)))
-        by (Ok done) e h = inr (inr (run, defined, h.ended ∙ sym e, h.written))
-        by (Err (stops.Fault fault)) e h = inr (inr (run, defined, h.ended ∙ sym e, h.written))
+            → IsOneOf call (7 ∷ 8 ∷ 9 ∷ []) ⊎ ((call.status ≡ 6) × (text ≡ []) ⊎ ((run : Run) × IsDefined call source start run × (status_of run.end ≡ call.status) × (text ≡ output run)))
+        by (Ok done) e h = inr (inr (run, defined, ap status_of h.ended ∙ sym e, h.written))
+        by (Err (stops.Fault fault)) e h = inr (inr (run, defined, ap status_of h.ended ∙ sym e, h.written))
         by (Err stops.ReadFault) e h = inr (inl (e, h))
         by (Err stops.FileFault) e h = inl (subst (Contains (7 ∷ 8 ∷ 9 ∷ [])) (sym e) (0, omega arith, refl))
         by (Err stops.WriteFault) e h = inl (subst (Contains (7 ∷ 8 ∷ 9 ∷ [])) (sym e) (1, omega arith, refl))
@@ -196,17 +179,17 @@ module _ (call : Call) (end : Result (Unit {0}) Stop) (is : call.status ≡ stat
         by (Err stops.NoMemory) e h = record { appended = appended; no_memory = λ s. h; unwritten = λ s. absurd (omega (arith, s, e)); no_file = λ s. absurd (omega (arith, s, e)) }
 
     -- a file that was not there was counted
-    absent : Ends run start call.db call.folder_after text end → IsAbsenceCount end call.absences call.absences_after → (n : ℕ) (file : List ℕ) → run.line ≡ no_file_line n file → call.status ≡ 5 → Rose call.absences call.absences_after
+    absent : Ends run start call.db call.folder_after text end → IsAbsenceCount end call.absences call.absences_after → (n : ℕ) (file : List ℕ) → run.end ≡ Err (stops.Fault (faults.NoFile n file)) → call.status ≡ 5 → Rose call.absences call.absences_after
     absent = by end is
       where
         by : (r : Result (Unit {0}) Stop) → call.status ≡ status_of r → Ends run start call.db call.folder_after text r → IsAbsenceCount r call.absences call.absences_after
-            → (n : ℕ) (file : List ℕ) → run.line ≡ no_file_line n file → call.status ≡ 5 → Rose call.absences call.absences_after
-        by (Ok done) e h k n file line five = absurd (omega (arith, e, five))
-        by (Err (stops.Fault fault)) e h k n file line five = absent_line fault n file call.absences call.absences_after (sym e ∙ five) (sym line ∙ h.last) k
-        by (Err stops.ReadFault) e h k n file line five = absurd (omega (arith, e, five))
-        by (Err stops.FileFault) e h k n file line five = absurd (omega (arith, e, five))
-        by (Err stops.WriteFault) e h k n file line five = absurd (omega (arith, e, five))
-        by (Err stops.NoMemory) e h k n file line five = absurd (omega (arith, e, five))
+            → (n : ℕ) (file : List ℕ) → run.end ≡ Err (stops.Fault (faults.NoFile n file)) → call.status ≡ 5 → Rose call.absences call.absences_after
+        by (Ok done) e h k n file none five = absurd (omega (arith, e, five))
+        by (Err (stops.Fault fault)) e h k n file none five = (subst (λ (r : Result (Unit {0}) Stop). IsAbsenceCount r call.absences call.absences_after) (sym h.ended ∙ none) k).1
+        by (Err stops.ReadFault) e h k n file none five = absurd (omega (arith, e, five))
+        by (Err stops.FileFault) e h k n file none five = absurd (omega (arith, e, five))
+        by (Err stops.WriteFault) e h k n file none five = absurd (omega (arith, e, five))
+        by (Err stops.NoMemory) e h k n file none five = absurd (omega (arith, e, five))
 
   -- the status is one of nine
   answers : IsOneOf call (0 ∷ 2 ∷ 3 ∷ 4 ∷ 5 ∷ 6 ∷ 7 ∷ 8 ∷ 9 ∷ [])
@@ -305,18 +288,18 @@ module _ (call : Call) (end : Result (Unit {0}) Stop) (is : call.status ≡ stat
         → (text : List ℕ) × Appends call.written call.written_after text × Ends run start call.db call.folder_after text end
     at source start t run defined = told source start run t.source t.files defined
 
-    as_defined : (source : List ℕ) (start : Folder) → AreTold call source start → IsStopped call ⊎ ((run : Run) × IsDefined call source start run × (run.status ≡ call.status) × IsStateOf start run.done call.db call.folder_after)
+    as_defined : (source : List ℕ) (start : Folder) → AreTold call source start → IsStopped call ⊎ ((run : Run) × IsDefined call source start run × (status_of run.end ≡ call.status) × IsStateOf start run.done call.db call.folder_after)
     as_defined source start t = by (some call.words source start)
       where
-        by : (r : (run : Run) × IsDefinedRun call.words source start run) → IsStopped call ⊎ ((run : Run) × IsDefined call source start run × (run.status ≡ call.status) × IsStateOf start run.done call.db call.folder_after)
+        by : (r : (run : Run) × IsDefinedRun call.words source start run) → IsStopped call ⊎ ((run : Run) × IsDefined call source start run × (status_of run.end ≡ call.status) × IsStateOf start run.done call.db call.folder_after)
         by (run, defined) = of (ended run start (at source start t run defined).0 (at source start t run defined).2)
           where
-            of : IsStopped call ⊎ ((run.status ≡ call.status) × ((at source start t run defined).0 ≡ output run) × IsStateOf start run.done call.db call.folder_after)
-                → IsStopped call ⊎ ((run : Run) × IsDefined call source start run × (run.status ≡ call.status) × IsStateOf start run.done call.db call.folder_after)
+            of : IsStopped call ⊎ ((status_of run.end ≡ call.status) × ((at source start t run defined).0 ≡ output run) × IsStateOf start run.done call.db call.folder_after)
+                → IsStopped call ⊎ ((run : Run) × IsDefined call source start run × (status_of run.end ≡ call.status) × IsStateOf start run.done call.db call.folder_after)
             of (inl h) = inl h
             of (inr h) = inr (run, defined, h.0, h.2)
 
-    only_status : (source : List ℕ) (start : Folder) → IsStopped call ⊎ ((run : Run) × IsDefined call source start run × (run.status ≡ call.status) × IsStateOf start run.done call.db call.folder_after)
+    only_status : (source : List ℕ) (start : Folder) → IsStopped call ⊎ ((run : Run) × IsDefined call source start run × (status_of run.end ≡ call.status) × IsStateOf start run.done call.db call.folder_after)
         → IsStopped call ⊎ IsAsDefined call source start
     only_status source start (inl h) = inl h
     only_status source start (inr h) = inr (h.0, h.1, h.2)
@@ -337,7 +320,7 @@ module _ (call : Call) (end : Result (Unit {0}) Stop) (is : call.status ≡ stat
       drained = λ source run left z. drained (call.left_after ≡ Some []) (empty source run left) z;
       no_command = λ none. one_of (2 ∷ 8 ∷ 9 ∷ []) (end_is.no_command none);
       command = λ e. end_is.command (sym is ∙ e);
-      no_script = λ source line run left fault. one_of (3 ∷ 6 ∷ 8 ∷ 9 ∷ []) (end_is.no_script source line run left fault);
+      no_script = λ source why run left fault. one_of (3 ∷ 6 ∷ 8 ∷ 9 ∷ []) (end_is.no_script source why run left fault);
       script = λ source t e. end_is.script source t (sym is ∙ e);
     }
 
@@ -372,7 +355,7 @@ module _ (call : Call) (end : Result (Unit {0}) Stop) (is : call.status ≡ stat
       run = λ e. end_is.run (sym is ∙ e);
       file = file_cause;
       write = write_cause;
-      absent = λ source start t run defined n file line five. let e = at source start t run defined in absent run start e.0 e.2 absences n file line five;
+      absent = λ source start t run defined n file none five. let e = at source start t run defined in absent run start e.0 e.2 absences n file none five;
       absences = unmissed end call.absences call.absences_after absences;
     }
 
@@ -392,7 +375,7 @@ module _ (call : Call) (end : Result (Unit {0}) Stop) (is : call.status ≡ stat
     is_complete : IsComplete call
     is_complete source start t none = by (as_defined source start t)
       where
-        by : IsStopped call ⊎ ((run : Run) × IsDefined call source start run × (run.status ≡ call.status) × IsStateOf start run.done call.db call.folder_after) → (call.status ≡ 9) ⊎ IsAsDefined call source start
+        by : IsStopped call ⊎ ((run : Run) × IsDefined call source start run × (status_of run.end ≡ call.status) × IsStateOf start run.done call.db call.folder_after) → (call.status ≡ 9) ⊎ IsAsDefined call source start
         by (inl h) = inl (unstopped none read_cause file_cause write_cause h)
         by (inr h) = inr (h.0, h.1, h.2)
 

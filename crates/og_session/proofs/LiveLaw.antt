@@ -102,7 +102,7 @@ run_checked contents n before (stmt ∷ stmts) = by (outcome contents before stm
 -- those of a run
 defined_checked : (words : List (List ℕ)) (source : List ℕ) (start : Folder) (run : Run) → IsDefinedRun words source start run → AreChecked [] run.done
 defined_checked words source start run (no_command none e) = subst (λ r. AreChecked [] r.done) (sym e) tt
-defined_checked words source start run (no_script is line fault e) = subst (λ r. AreChecked [] r.done) (sym e) tt
+defined_checked words source start run (no_script is why fault e) = subst (λ r. AreChecked [] r.done) (sym e) tt
 defined_checked words source start run (is_run command is stmts script contents are e) =
     let all = run_checked contents 1 [] stmts in
     subst (AreChecked []) (sym (ap (λ r. r.done) e ∙ all.1)) all.2

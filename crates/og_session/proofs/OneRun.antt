@@ -5,10 +5,11 @@ use Rattle.og_words.specs.Grammar.{IsCommand}
 use Rattle.og_words.specs.declared.command.Command.{Command}
 use Rattle.og_words.specs.declared.command.Command.TheVariants as commands
 use Rattle.og_io.specs.Folders.{Folder}
-use Rattle.og_faults.specs.Lines.{words_line}
+use Rattle.og_faults.specs.declared.fault.Fault.{Fault}
+use Rattle.og_faults.specs.declared.fault.Fault.TheVariants as faults
 use Rattle.og_script.specs.Commands.{at_script, load_script}
 use Rattle.og_script.specs.Scripts.{IsScriptFault, IsScriptOf}
-use Rattle.og_script.proofs.Scripts.{IsScriptOrNot, Laws, one_script, no_fault, one_fault_line}
+use Rattle.og_script.proofs.Scripts.{IsScriptOrNot, Laws, one_script, no_fault, one_fault}
 use Rattle.og_session.specs.Contents.{AreContents, Contents}
 use Rattle.og_session.specs.Runs.{Run, IsDefinedRun, IsRun, IsNoCommand, no_command, no_script, is_run, refused, run_from}
 
@@ -28,27 +29,27 @@ module _ (laws : Laws) (one_command : IsOneCommand) where
   one_script_of_words words source a b xs ys is other x y = one_script_of a source xs ys x (subst (λ c. IsScriptOf c source ys) (one_command words b a other is) y)
 
   -- the command run whose source has a fault runs no statements
-  faulty : {A : Type 0} (words : List (List ℕ)) (source line : List ℕ) (command : Command) (stmts : List Stmt) → IsRun words → IsScriptFault source line → IsCommand words command → IsScriptOf command source stmts → A
-  faulty words source line command stmts (workers, other) fault is script =
-      absurd (no_fault laws source line stmts (subst (λ c. IsScriptOf c source stmts) (one_command words command (commands.Run workers) is other) script) fault)
+  faulty : {A : Type 0} (words : List (List ℕ)) (source : List ℕ) (why : Fault) (command : Command) (stmts : List Stmt) → IsRun words → IsScriptFault source why → IsCommand words command → IsScriptOf command source stmts → A
+  faulty words source why command stmts (workers, other) fault is script =
+      absurd (no_fault laws source why stmts (subst (λ c. IsScriptOf c source stmts) (one_command words command (commands.Run workers) is other) script) fault)
 
   -- the run of words that are no command
-  pub run_of_no_command : (words : List (List ℕ)) (source : List ℕ) (start : Folder) (run : Run) → IsNoCommand words → IsDefinedRun words source start run → run ≡ refused words_line 2
+  pub run_of_no_command : (words : List (List ℕ)) (source : List ℕ) (start : Folder) (run : Run) → IsNoCommand words → IsDefinedRun words source start run → run ≡ refused faults.Words
   run_of_no_command words source start run none (no_command other e) = e
-  run_of_no_command words source start run none (no_script (workers, is) line fault e) = absurd (none (commands.Run workers) is)
+  run_of_no_command words source start run none (no_script (workers, is) why fault e) = absurd (none (commands.Run workers) is)
   run_of_no_command words source start run none (is_run command is stmts script contents are e) = absurd (none command is)
 
   -- the run of the command run, of a source with a fault
-  pub run_of_no_script : (words : List (List ℕ)) (source line : List ℕ) (start : Folder) (run : Run) → IsRun words → IsScriptFault source line → IsDefinedRun words source start run → run ≡ refused line 3
-  run_of_no_script words source line start run (workers, is) fault (no_command none e) = absurd (none (commands.Run workers) is)
-  run_of_no_script words source line start run is fault (no_script other second last e) = e ∙ ap (λ l. refused l 3) (one_fault_line laws source second line last fault)
-  run_of_no_script words source line start run is fault (is_run command other stmts script contents are e) = faulty words source line command stmts is fault other script
+  pub run_of_no_script : (words : List (List ℕ)) (source : List ℕ) (why : Fault) (start : Folder) (run : Run) → IsRun words → IsScriptFault source why → IsDefinedRun words source start run → run ≡ refused why
+  run_of_no_script words source why start run (workers, is) fault (no_command none e) = absurd (none (commands.Run workers) is)
+  run_of_no_script words source why start run is fault (no_script other second last e) = e ∙ ap refused (one_fault laws source second why last fault)
+  run_of_no_script words source why start run is fault (is_run command other stmts script contents are e) = faulty words source why command stmts is fault other script
 
   -- the run of a command and its statements
   pub run_of_script : (words : List (List ℕ)) (source : List ℕ) (start : Folder) (run : Run) (command : Command) (stmts : List Stmt) → IsCommand words command → IsScriptOf command source stmts → IsDefinedRun words source start run
       → (contents : Contents) × AreContents start contents × (run ≡ run_from contents 1 [] stmts)
   run_of_script words source start run command stmts is script (no_command none e) = absurd (none command is)
-  run_of_script words source start run command stmts is script (no_script other line fault e) = faulty words source line command stmts other fault is script
+  run_of_script words source start run command stmts is script (no_script other why fault e) = faulty words source why command stmts other fault is script
   run_of_script words source start run command stmts is script (is_run second other others last contents are e) =
       (contents, are, e ∙ ap (run_from contents 1 []) (one_script_of_words words source second command others stmts other is last script))
 
@@ -56,14 +57,14 @@ module _ (laws : Laws) (one_command : IsOneCommand) where
     -- words, a source and files have one run at most
     pub one_run : (words : List (List ℕ)) (source : List ℕ) (start : Folder) (first second : Run) → IsDefinedRun words source start first → IsDefinedRun words source start second → first ≡ second
     one_run words source start first second (no_command none e) defined = e ∙ sym (run_of_no_command words source start second none defined)
-    one_run words source start first second (no_script is line fault e) defined = e ∙ sym (run_of_no_script words source line start second is fault defined)
+    one_run words source start first second (no_script is why fault e) defined = e ∙ sym (run_of_no_script words source why start second is fault defined)
     one_run words source start first second (is_run command is stmts script contents are e) defined =
         let other = run_of_script words source start second command stmts is script defined in
         e ∙ ap (λ c. run_from c 1 [] stmts) (one_content start contents other.0 are other.1) ∙ sym other.2
 
 -- a command has statements, or its source has a fault
 abbrev HasScriptOrNot : List (List ℕ) → List ℕ → Command → Type 0
-HasScriptOrNot words source command = ((stmts : List Stmt) × IsScriptOf command source stmts) ⊎ (IsRun words × (line : List ℕ) × IsScriptFault source line)
+HasScriptOrNot words source command = ((stmts : List Stmt) × IsScriptOf command source stmts) ⊎ (IsRun words × (why : Fault) × IsScriptFault source why)
 
 module _
     (command_or_none : (words : List (List ℕ)) → ((command : Command) × IsCommand words command) ⊎ IsNoCommand words)
@@ -76,7 +77,7 @@ module _
       where
         by : IsScriptOrNot source → HasScriptOrNot words source (commands.Run workers)
         by (inl script) = inl script
-        by (inr (line, fault)) = inr ((workers, is), line, fault)
+        by (inr (why, fault)) = inr ((workers, is), why, fault)
     script_of words source (commands.At file day) is = inl (at_script file day, refl)
     script_of words source (commands.Load rows workers) is = inl (load_script rows, refl)
 
@@ -87,8 +88,8 @@ module _
         of_command : (command : Command) → IsCommand words command → HasScriptOrNot words source command → (run : Run) × IsDefinedRun words source start run
         of_command command is (inl (stmts, script)) =
             let held = some_content start in (run_from held.0 1 [] stmts, is_run command is stmts script held.0 held.1 refl)
-        of_command command is (inr (run, line, fault)) = (refused line 3, no_script run line fault refl)
+        of_command command is (inr (run, why, fault)) = (refused why, no_script run why fault refl)
 
         by : ((command : Command) × IsCommand words command) ⊎ IsNoCommand words → (run : Run) × IsDefinedRun words source start run
         by (inl (command, is)) = of_command command is (script_of words source command is)
-        by (inr none) = (refused words_line 2, no_command none refl)
+        by (inr none) = (refused faults.Words, no_command none refl)

@@ -10,7 +10,8 @@ use Rattle.og_db.specs.Database.{Relation}
 use Rattle.og_db.specs.Effects.{Effect, on_names, saved, reopened, opened, imported}
 use Rattle.og_db.specs.Held.{Held}
 use Rattle.og_db.specs.Runs.{stored}
-use Rattle.og_faults.specs.Refusals.{Refused, by_checks, by_file}
+use Rattle.og_faults.specs.Faults.{line_of, status_of}
+use Rattle.og_faults.specs.Refusals.{Refused}
 use Rattle.og_faults.specs.declared.stop.Stop.{Stop}
 use Rattle.og_faults.specs.declared.stop.Stop.TheVariants as stops
 use Rattle.og_session.specs.Asked.{AreAsked, StepAsks, asked, count_after}
@@ -49,9 +50,9 @@ module _ (start : Folder) (contents : Contents) where
   record IsNext (n : ℕ) (before : List Effect) (run : Run) (o : Result Effect Refused) : Type 0 where
     pub after : List Effect
     pub parts : run.done ≡ before ++ after
-    pub piece : next_piece before after run.line ≡ piece_or_line n before o
+    pub piece : next_piece before after (line_of run.end) ≡ piece_or_line n before o
     pub name : (other : List ℕ) → is_saved_by o other → is_written_by after other
-    pub at : IsOfFile o → IsAtFile after run.status
+    pub at : IsOfFile n o → IsAtFile after (status_of run.end)
 
   next_at : (n : ℕ) (before : List Effect) (stmt : Stmt) (stmts : List Stmt) → IsNext n before (run_from contents n before (stmt ∷ stmts)) (outcome contents before stmt)
   next_at n before stmt stmts = by (outcome contents before stmt)
@@ -66,7 +67,7 @@ module _ (start : Folder) (contents : Contents) where
       same (opened name columns rel) more other h = h
       same (imported name rows) more other h = h
 
-      file : (effect : Effect) (more : List Effect) (status : ℕ) → IsOfFile (Ok effect) → IsAtFile (effect ∷ more) status
+      file : (effect : Effect) (more : List Effect) (status : ℕ) → IsOfFile n (Ok effect) → IsAtFile (effect ∷ more) status
       file (on_names stmt) more status h = h
       file (saved name f) more status h = h
       file (reopened name f) more status h = h
@@ -79,10 +80,9 @@ module _ (start : Folder) (contents : Contents) where
         parts = more.1 ∙ append_assoc before (effect ∷ []) more.0;
         piece = refl;
         name = same effect more.0;
-        at = file effect more.0 (run_of (Ok effect)).status;
+        at = file effect more.0 (status_of (run_of (Ok effect)).end);
       }
-      by (Err (by_checks refusal)) = record { after = []; parts = sym (append-nil before); piece = refl; name = λ other h. h; at = λ h. absurd h }
-      by (Err (by_file fault)) = record { after = []; parts = sym (append-nil before); piece = refl; name = λ other h. h; at = λ h. refl }
+      by (Err refusal) = record { after = []; parts = sym (append-nil before); piece = refl; name = λ other h. h; at = λ h. h }
 
   -- after so many statements: those before were carried out, what they write was written, the files were asked for each on files, and the run is that of those that are left
   pub record IsAt (stmts : List Stmt) (i : ℕ) (held : Watched) (folder : Option Folder) (old now : Option (List ℕ)) (calls calls_now : ℕ) : Type 0 where
@@ -144,7 +144,7 @@ module _ (start : Folder) (contents : Contents) where
         by (stops.Fault fault) (refusal, bad, is, state, none) =
             subst (λ r. RunEnds r start (stored new_held.names) new_folder (output_from [] at.before ++ text) (Err (stops.Fault fault)))
             (sym (run ∙ ap (after_outcome n at.before (λ effect. run_from contents (suc n) (at.before ++ effect ∷ []) rest)) bad))
-            (record { written = ap (λ t. output_from [] at.before ++ t) none ∙ append-nil (output_from [] at.before); state = state; last = sym is.line; ended = sym is.status })
+            (record { ended = ap Err is; written = ap (λ t. output_from [] at.before ++ t) none ∙ append-nil (output_from [] at.before); state = state })
         by stops.ReadFault h = absurd h
         by stops.FileFault (is, state, none) =
             subst (λ r. IsCutAtFile r start (stored new_held.names) new_folder (output_from [] at.before ++ text)) (sym run)
@@ -195,8 +195,7 @@ module _ (start : Folder) (contents : Contents) where
     turn-last = (
       output_from [] at.before,
       at.written,
-      subst (λ r. IsUnreported r start (stored held.names) folder (output_from [] at.before) [] 0) (sym all)
-          (record { written = refl; state = left_state start at.before held folder at.state; last = refl; ended = refl }),
+      subst (λ r. IsUnreported r start (stored held.names) folder (output_from [] at.before) (Ok tt)) (sym all) (record { ended = refl; written = refl; state = left_state start at.before held folder at.state }),
     )
 
     -- and so often the files were asked
@@ -218,4 +217,4 @@ module _ (start : Folder) (contents : Contents) where
   pub not_begun : (run : Run) (db : List (Held Relation)) (folder : Option Folder) (old : Option (List ℕ)) → IsStateOf start [] db folder
       → (text : List ℕ) × Appends old old text × RunEnds run start db folder text (Err stops.NoMemory)
   not_begun run db folder old state =
-      ([], Appends-nil old, record { cut = record { before = []; after = run.done; front = []; parts = refl; written = refl; begun = (next_piece [] run.done run.line, refl) }; state = state })
+      ([], Appends-nil old, record { cut = record { before = []; after = run.done; front = []; parts = refl; written = refl; begun = (next_piece [] run.done (line_of run.end), refl) }; state = state })

@@ -47,13 +47,13 @@ module _ (start : Folder) (n : ℕ) (before : List Effect) where
       refused r e = ap (outcome_of contents before) e
 
       by : (r : CheckRefusal) → (is_fault r ≡ true → checked (known_after before) stmt ≡ Err r) → StepEnds start n before (outcome contents before stmt) held folder [] (Err (stop_of_check n r))
-      by (checks.NoSuchName name) bad = (by_checks (checks.NoSuchName name), refused (checks.NoSuchName name) (bad refl), record { line = refl; status = refl }, state, refl)
-      by (checks.NameTaken name) bad = (by_checks (checks.NameTaken name), refused (checks.NameTaken name) (bad refl), record { line = refl; status = refl }, state, refl)
-      by (checks.NoSuchColumn name) bad = (by_checks (checks.NoSuchColumn name), refused (checks.NoSuchColumn name) (bad refl), record { line = refl; status = refl }, state, refl)
-      by (checks.AmbiguousColumn name) bad = (by_checks (checks.AmbiguousColumn name), refused (checks.AmbiguousColumn name) (bad refl), record { line = refl; status = refl }, state, refl)
-      by (checks.KindsDiffer found wanted) bad = (by_checks (checks.KindsDiffer found wanted), refused (checks.KindsDiffer found wanted) (bad refl), record { line = refl; status = refl }, state, refl)
-      by (checks.CountsDiffer found wanted) bad = (by_checks (checks.CountsDiffer found wanted), refused (checks.CountsDiffer found wanted) (bad refl), record { line = refl; status = refl }, state, refl)
-      by (checks.TooMany found limit) bad = (by_checks (checks.TooMany found limit), refused (checks.TooMany found limit) (bad refl), record { line = refl; status = refl }, state, refl)
+      by (checks.NoSuchName name) bad = (by_checks (checks.NoSuchName name), refused (checks.NoSuchName name) (bad refl), refl, state, refl)
+      by (checks.NameTaken name) bad = (by_checks (checks.NameTaken name), refused (checks.NameTaken name) (bad refl), refl, state, refl)
+      by (checks.NoSuchColumn name) bad = (by_checks (checks.NoSuchColumn name), refused (checks.NoSuchColumn name) (bad refl), refl, state, refl)
+      by (checks.AmbiguousColumn name) bad = (by_checks (checks.AmbiguousColumn name), refused (checks.AmbiguousColumn name) (bad refl), refl, state, refl)
+      by (checks.KindsDiffer found wanted) bad = (by_checks (checks.KindsDiffer found wanted), refused (checks.KindsDiffer found wanted) (bad refl), refl, state, refl)
+      by (checks.CountsDiffer found wanted) bad = (by_checks (checks.CountsDiffer found wanted), refused (checks.CountsDiffer found wanted) (bad refl), refl, state, refl)
+      by (checks.TooMany found limit) bad = (by_checks (checks.TooMany found limit), refused (checks.TooMany found limit) (bad refl), refl, state, refl)
       by checks.NoMemory bad = (state, (piece_or_line n before (outcome contents before stmt), refl))
 
   -- a piece that was refused

@@ -6,10 +6,9 @@ use Rattle.og_db.specs.Database.{Relation}
 use Rattle.og_db.specs.Effects.{Effect, on_names, saved}
 use Rattle.og_db.specs.Held.{Held}
 use Rattle.og_db.specs.Runs.{stored}
-use Rattle.og_file.specs.declared.refusal.FileRefusal.TheVariants as files
-use Rattle.og_faults.specs.Refusals.{Refused, by_checks, by_file}
-use Rattle.og_faults.specs.Lines.{refused_line, refused_status}
-use Rattle.og_faults.specs.Faults.{fault_line, fault_status, status_of}
+use Rattle.og_faults.specs.Refusals.{Refused}
+use Rattle.og_faults.specs.Faults.{fault_status, line_of, status_of}
+use Rattle.og_faults.specs.Stops.{stop_of_refused}
 use Rattle.og_faults.specs.declared.fault.Fault.{Fault}
 use Rattle.og_faults.specs.declared.stop.Stop.{Stop}
 use Rattle.og_faults.specs.declared.stop.Stop.TheVariants as stops
@@ -31,32 +30,26 @@ pub record IsEndOf (words : List (List ℕ)) (left : Option (List ℕ)) (end : R
   pub no_command : IsNoCommand words → EndsWith (2 ∷ 8 ∷ 9 ∷ []) end
   pub command : status_of end ≡ 2 → IsNoCommand words
   pub run : status_of end ≡ 6 → IsRun words
-  pub no_script : (source line : List ℕ) → IsRun words → left ≡ Some source → IsScriptFault source line → EndsWith (3 ∷ 6 ∷ 8 ∷ 9 ∷ []) end
-  pub script : (source : List ℕ) → (IsRun words → left ≡ Some source) → status_of end ≡ 3 → IsRun words × (line : List ℕ) × IsScriptFault source line
+  pub no_script : (source : List ℕ) (fault : Fault) → IsRun words → left ≡ Some source → IsScriptFault source fault → EndsWith (3 ∷ 6 ∷ 8 ∷ 9 ∷ []) end
+  pub script : (source : List ℕ) → (IsRun words → left ≡ Some source) → status_of end ≡ 3 → IsRun words × (fault : Fault) × IsScriptFault source fault
 
 -- ---- the statements
 
 -- what a statement writes, or the line of its fault
 abbrev pub piece_or_line : ℕ → List Effect → Result Effect Refused → List ℕ
 piece_or_line n before (Ok effect) = piece_of before effect
-piece_or_line n before (Err refusal) = refused_line n refusal
+piece_or_line n before (Err refusal) = line_of (Err (stop_of_refused n refusal))
 
--- a statement asks for a file
-abbrev pub IsOfFile : Result Effect Refused → Type 0
-IsOfFile (Ok (on_names stmt)) = ⊥
-IsOfFile (Ok _) = ⊤
-IsOfFile (Err (by_checks refusal)) = ⊥
-IsOfFile (Err (by_file fault)) = ⊤
+-- a statement with that number asks for a file: one that is carried out, or one with a file fault
+abbrev pub IsOfFile : ℕ → Result Effect Refused → Type 0
+IsOfFile n (Ok (on_names stmt)) = ⊥
+IsOfFile n (Ok _) = ⊤
+IsOfFile n (Err refusal) = status_of (Err (stop_of_refused n refusal)) ≡ 5
 
 -- the name that a statement writes, where it is a SAVE
 abbrev pub is_saved_by : Result Effect Refused → List ℕ → Type 0
 is_saved_by (Ok (saved name file)) other = other ≡ file
 is_saved_by _ other = ⊥
-
--- the fault says why the statement is refused
-pub record IsFaultOf (n : ℕ) (refusal : Refused) (fault : Fault) : Type 0 where
-  pub line : fault_line fault ≡ refused_line n refusal
-  pub status : fault_status fault ≡ refused_status refusal
 
 -- what a run holds and the files are the state after these statements
 pub record IsHeldState (start : Folder) (effects : List Effect) (held : Watched) (folder : Option Folder) : Type 0 where
@@ -77,9 +70,9 @@ abbrev pub StepEnds : Folder → ℕ → List Effect → Result Effect Refused �
 StepEnds start n before outcome held folder text (Ok done) =
     (effect : Effect) × (outcome ≡ Ok effect) × IsHeldState start (before ++ effect ∷ []) held folder × (text ≡ piece_of before effect)
 StepEnds start n before outcome held folder text (Err (stops.Fault fault)) =
-    (refusal : Refused) × (outcome ≡ Err refusal) × IsFaultOf n refusal fault × IsLeft start before held folder × (text ≡ [])
+    (refusal : Refused) × (outcome ≡ Err refusal) × (stop_of_refused n refusal ≡ stops.Fault fault) × IsLeft start before held folder × (text ≡ [])
 StepEnds start n before outcome held folder text (Err stops.ReadFault) = ⊥
-StepEnds start n before outcome held folder text (Err stops.FileFault) = IsOfFile outcome × IsLeftBut (is_saved_by outcome) start before held folder × (text ≡ [])
+StepEnds start n before outcome held folder text (Err stops.FileFault) = IsOfFile n outcome × IsLeftBut (is_saved_by outcome) start before held folder × (text ≡ [])
 StepEnds start n before outcome held folder text (Err stops.WriteFault) = IsLeft start before held folder × IsPrefix text (piece_or_line n before outcome) × (¬ (piece_or_line n before outcome ≡ []))
 StepEnds start n before outcome held folder text (Err stops.NoMemory) = IsLeft start before held folder × IsPrefix text (piece_or_line n before outcome)
 
@@ -106,17 +99,16 @@ IsStepStop _ = ⊤
 
 -- ---- the run
 
--- what was written before the line of the fault, and the state after the statements that were carried out
-pub record IsUnreported (run : Run) (start : Folder) (db : List (Held Relation)) (folder : Option Folder) (text line : List ℕ) (status : ℕ) : Type 0 where
+-- the run ended as it is defined, before any line of a fault: what was written, and the state after the statements that were carried out
+pub record IsUnreported (run : Run) (start : Folder) (db : List (Held Relation)) (folder : Option Folder) (text : List ℕ) (end : Result (Unit {0}) Stop) : Type 0 where
+  pub ended : run.end ≡ end
   pub written : text ≡ output_from [] run.done
   pub state : IsStateOf start run.done db folder
-  pub last : run.line ≡ line
-  pub ended : run.status ≡ status
 
 -- how the statements end, before any line of a fault
 abbrev pub RunEnds : Run → Folder → List (Held Relation) → Option Folder → List ℕ → Result (Unit {0}) Stop → Type 0
-RunEnds run start db folder text (Ok done) = IsUnreported run start db folder text [] 0
-RunEnds run start db folder text (Err (stops.Fault fault)) = IsUnreported run start db folder text (fault_line fault) (fault_status fault)
+RunEnds run start db folder text (Ok done) = IsUnreported run start db folder text (Ok tt)
+RunEnds run start db folder text (Err (stops.Fault fault)) = IsUnreported run start db folder text (Err (stops.Fault fault))
 RunEnds run start db folder text (Err stops.ReadFault) = ⊥
 RunEnds run start db folder text (Err stops.FileFault) = IsCutAtFile run start db folder text
 RunEnds run start db folder text (Err stops.WriteFault) = IsCutAtPiece run start db folder text
@@ -127,17 +119,16 @@ abbrev pub EndsUnreported : Run → Folder → List (Held Relation) → Option F
 EndsUnreported run start db folder text (Err stops.ReadFault) = text ≡ []
 EndsUnreported run start db folder text end = RunEnds run start db folder text end
 
--- the run ended as it is defined: it wrote all, with that line last, and the state is that after the statements that were carried out
-pub record IsWhole (run : Run) (start : Folder) (db : List (Held Relation)) (folder : Option Folder) (text line : List ℕ) (status : ℕ) : Type 0 where
-  pub ended : run.status ≡ status
-  pub last : run.line ≡ line
+-- the run ended as it is defined: it wrote all, and the state is that after the statements that were carried out
+pub record IsWhole (run : Run) (start : Folder) (db : List (Held Relation)) (folder : Option Folder) (text : List ℕ) (end : Result (Unit {0}) Stop) : Type 0 where
+  pub ended : run.end ≡ end
   pub written : text ≡ output run
   pub state : IsStateOf start run.done db folder
 
 -- how a run ends, over its defined run
 abbrev pub Ends : Run → Folder → List (Held Relation) → Option Folder → List ℕ → Result (Unit {0}) Stop → Type 0
-Ends run start db folder text (Ok done) = IsWhole run start db folder text [] 0
-Ends run start db folder text (Err (stops.Fault fault)) = IsWhole run start db folder text (fault_line fault) (fault_status fault)
+Ends run start db folder text (Ok done) = IsWhole run start db folder text (Ok tt)
+Ends run start db folder text (Err (stops.Fault fault)) = IsWhole run start db folder text (Err (stops.Fault fault))
 Ends run start db folder text (Err stops.ReadFault) = text ≡ []
 Ends run start db folder text (Err stops.FileFault) = IsCutAtFile run start db folder text
 Ends run start db folder text (Err stops.WriteFault) = IsCutAtPiece run start db folder text

@@ -1,5 +1,5 @@
 -- The seven clauses of the headline.
-use Rattle.std.specs.Prelude.{◌≡◌, ◌<◌, ◌≤◌, ◌⊎◌, ◌++◌, ◌+◌, ⊤, ℕ, List, [], ◌∷◌, Option, Some, None, Contains}
+use Rattle.std.specs.Prelude.{◌≡◌, ◌<◌, ◌≤◌, ◌⊎◌, ◌++◌, ◌+◌, ⊤, ℕ, List, [], ◌∷◌, Option, Some, None, Contains, Err}
 use Rattle.std.specs.Io.KnownBytes.{Appends}
 use Rattle.og_base.specs.Told.{Rose, IsPrefix}
 use Rattle.og_io.specs.Folders.{Folder}
@@ -9,7 +9,10 @@ use Rattle.og_db.specs.Database.{Relation}
 use Rattle.og_db.specs.Effects.{Effect, on_names, saved}
 use Rattle.og_db.specs.Held.{Held, found}
 use Rattle.og_db.specs.Runs.{IsWorldOf, stored}
-use Rattle.og_faults.specs.Lines.{no_file_line}
+use Rattle.og_faults.specs.Faults.{line_of, status_of}
+use Rattle.og_faults.specs.declared.fault.Fault.{Fault}
+use Rattle.og_faults.specs.declared.fault.Fault.TheVariants as faults
+use Rattle.og_faults.specs.declared.stop.Stop.TheVariants as stops
 use Rattle.og_script.specs.Scripts.{IsScriptFault, max_source}
 use Rattle.og_session.specs.Asked.{AreAsked, asked, count_after}
 use Rattle.og_session.specs.Output.{piece_of, output_from}
@@ -62,7 +65,7 @@ IsDefined call source start run = IsDefinedRun call.words source start run
 
 -- the run ended as it is defined
 abbrev pub IsAsDefined : Call → List ℕ → Folder → Type 0
-IsAsDefined call source start = (run : Run) × IsDefined call source start run × (run.status ≡ call.status)
+IsAsDefined call source start = (run : Run) × IsDefined call source start run × (status_of run.end ≡ call.status)
 
 -- ---- the state
 
@@ -107,7 +110,7 @@ pub record IsCut (run : Run) (text : List ℕ) : Type 0 where
   pub front : List ℕ
   pub parts : run.done ≡ before ++ after
   pub written : text ≡ output_from [] before ++ front
-  pub begun : IsPrefix front (next_piece before after run.line)
+  pub begun : IsPrefix front (next_piece before after (line_of run.end))
 
 -- the run was cut short, in the state after its first statements
 pub record IsCutShort (run : Run) (start : Folder) (db : List (Held Relation)) (folder : Option Folder) (text : List ℕ) : Type 0 where
@@ -117,7 +120,7 @@ pub record IsCutShort (run : Run) (start : Folder) (db : List (Held Relation)) (
 -- the run was cut short at a piece that is not empty
 pub record IsCutAtPiece (run : Run) (start : Folder) (db : List (Held Relation)) (folder : Option Folder) (text : List ℕ) : Type 0 where
   pub short : IsCutShort run start db folder text
-  pub some : ¬ (next_piece short.cut.before short.cut.after run.line ≡ [])
+  pub some : ¬ (next_piece short.cut.before short.cut.after (line_of run.end) ≡ [])
 
 -- the next statement, which passed its checks, is an OPEN, an IMPORT or a SAVE: one that is carried out, or one with a file fault
 abbrev pub IsAtFile : List Effect → ℕ → Type 0
@@ -134,7 +137,7 @@ is_written_by _ other = ⊥
 pub record IsCutAtFile (run : Run) (start : Folder) (db : List (Held Relation)) (folder : Option Folder) (text : List ℕ) : Type 0 where
   pub cut : IsCut run text
   pub state : IsStateBut (is_written_by cut.after) start cut.before db folder
-  pub at : IsAtFile cut.after run.status
+  pub at : IsAtFile cut.after (status_of run.end)
 
 -- ---- the calls of the files
 
@@ -156,14 +159,14 @@ pub record HasStatus (call : Call) : Type 0 where
   pub drained : (source : List ℕ) → IsRun call.words → call.left ≡ Some source → call.status ≡ 0 → call.left_after ≡ Some []
   pub no_command : IsNoCommand call.words → IsOneOf call (2 ∷ 8 ∷ 9 ∷ [])
   pub command : call.status ≡ 2 → IsNoCommand call.words
-  pub no_script : (source line : List ℕ) → IsRun call.words → call.left ≡ Some source → IsScriptFault source line → IsOneOf call (3 ∷ 6 ∷ 8 ∷ 9 ∷ [])
-  pub script : (source : List ℕ) → IsTold call source → call.status ≡ 3 → IsRun call.words × (line : List ℕ) × IsScriptFault source line
+  pub no_script : (source : List ℕ) (fault : Fault) → IsRun call.words → call.left ≡ Some source → IsScriptFault source fault → IsOneOf call (3 ∷ 6 ∷ 8 ∷ 9 ∷ [])
+  pub script : (source : List ℕ) → IsTold call source → call.status ≡ 3 → IsRun call.words × (fault : Fault) × IsScriptFault source fault
 
 -- what was written: a front of the defined output, all of it unless the run was stopped, and nothing at a fault of the source
 pub record IsOutput (call : Call) (source : List ℕ) (start : Folder) (text : List ℕ) : Type 0 where
   pub appended : Appends call.written call.written_after text
   pub front : (run : Run) → IsDefined call source start run → IsPrefix text (output run)
-  pub whole : IsOneOf call (7 ∷ 8 ∷ 9 ∷ []) ⊎ ((call.status ≡ 6) × (text ≡ []) ⊎ ((run : Run) × IsDefined call source start run × (run.status ≡ call.status) × (text ≡ output run)))
+  pub whole : IsOneOf call (7 ∷ 8 ∷ 9 ∷ []) ⊎ ((call.status ≡ 6) × (text ≡ []) ⊎ ((run : Run) × IsDefined call source start run × (status_of run.end ≡ call.status) × (text ≡ output run)))
 
 -- the bytes that were told stay, and more may stand behind them
 abbrev pub HasGrown : Option (List ℕ) → Option (List ℕ) → Type 0
@@ -177,7 +180,7 @@ pub record HasOutput (call : Call) : Type 0 where
 -- state: that after the statements that the defined run carries out, unless the run was stopped
 pub record HasState (call : Call) : Type 0 where
   pub state : (source : List ℕ) (start : Folder) → AreTold call source start
-      → IsStopped call ⊎ ((run : Run) × IsDefined call source start run × (run.status ≡ call.status) × IsStateOf start run.done call.db call.folder_after)
+      → IsStopped call ⊎ ((run : Run) × IsDefined call source start run × (status_of run.end ≡ call.status) × IsStateOf start run.done call.db call.folder_after)
   pub no_names : IsOneOf call (2 ∷ 3 ∷ 6 ∷ []) → call.db ≡ []
   pub files_stay : IsOneOf call (2 ∷ 3 ∷ 6 ∷ []) → call.folder_after ≡ call.folder
 
@@ -205,7 +208,7 @@ pub record HasCause (call : Call) : Type 0 where
   pub file : IsCause 7 call.file_faults call.file_faults_after call
   pub write : IsCause 8 call.write_faults call.write_faults_after call
   pub absent : (source : List ℕ) (start : Folder) → AreTold call source start → (run : Run) → IsDefined call source start run
-      → (n : ℕ) (file : List ℕ) → run.line ≡ no_file_line n file → call.status ≡ 5 → Rose call.absences call.absences_after
+      → (n : ℕ) (file : List ℕ) → run.end ≡ Err (stops.Fault (faults.NoFile n file)) → call.status ≡ 5 → Rose call.absences call.absences_after
   pub absences : call.absences ≤ call.absences_after
 
 -- no count of faults rose

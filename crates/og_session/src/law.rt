@@ -16,7 +16,8 @@ ghost use Rattle.og_db.specs.Effects.{Effect, on_names, world_of_day};
 ghost use Rattle.og_db.specs.Held.{found, known_of, without};
 ghost use Rattle.og_db.specs.Live.{query_of, uses};
 ghost use Rattle.og_db.specs.Runs.{known_after, live_of};
-ghost use Rattle.og_faults.specs.Lines.{words_line};
+ghost use Rattle.og_faults.specs.declared.fault.Fault.{Fault};
+ghost use Rattle.og_faults.specs.declared.fault.Fault.TheVariants as faults;
 ghost use Rattle.og_script.specs.Scripts.{IsScript, IsScriptFault, IsScriptOf};
 ghost use Rattle.og_session.specs.Contents.{AreContents, Contents};
 ghost use Rattle.og_session.specs.LiveResults.{live_result};
@@ -51,11 +52,11 @@ pub fn one_defined_run()
 
 /// Which run is the defined one: of words that are no command, of a source that is no script, and of a script.
 pub fn defined_runs()
-    ensures no_command { (words : List (List ℕ)) (source : List ℕ) (start : Folder) (run : Run) → IsNoCommand words → IsDefinedRun words source start run → run ≡ refused words_line 2 }
-    ensures no_script { (words : List (List ℕ)) (source line : List ℕ) (start : Folder) (run : Run) → IsRun words → IsScriptFault source line → IsDefinedRun words source start run → run ≡ refused line 3 }
+    ensures no_command { (words : List (List ℕ)) (source : List ℕ) (start : Folder) (run : Run) → IsNoCommand words → IsDefinedRun words source start run → run ≡ refused faults.Words }
+    ensures no_script { (words : List (List ℕ)) (source : List ℕ) (fault : Fault) (start : Folder) (run : Run) → IsRun words → IsScriptFault source fault → IsDefinedRun words source start run → run ≡ refused fault }
     ensures script { (words : List (List ℕ)) (source : List ℕ) (start : Folder) (run : Run) (command : commands.Command) (stmts : List Stmt) → IsCommand words command → IsScriptOf command source stmts → IsDefinedRun words source start run →
         (contents : Contents) × AreContents start contents × (run ≡ run_from contents 1 [] stmts) }
-    ensures no_fault { (source line : List ℕ) (stmts : List Stmt) → IsScript source stmts → IsScriptFault source line → ⊥ }
+    ensures no_fault { (source : List ℕ) (fault : Fault) (stmts : List Stmt) → IsScript source stmts → IsScriptFault source fault → ⊥ }
     ensures command { (words : List (List ℕ)) (a b : commands.Command) → IsCommand words a → IsCommand words b → a ≡ b }
 {
     one_list_a_script();

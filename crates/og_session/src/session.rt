@@ -163,7 +163,7 @@ pub fn run_located<H: Threads + Sync, S: Source, K: Sink, F: Files, G: Gate + Pr
     ensures untouched { ¬ IsRun words.now → src.new ≡ src.old }
     ensures end { result.status ≡ status_of result.end }
     ensures fault { (source : List ℕ) (start : Folder) (run : Run) → IsRun words.now → S.left src.old ≡ Some source → F.folder files.old ≡ Some start → IsDefinedRun words.now source start run →
-        IsEndedBy source run.line result }
+        IsEndedBy source run result }
     ensures no_script { ¬ IsRun words.now → result.script.items ≡ [] }
 {
     one_defined_run();

@@ -41,7 +41,7 @@ returns-in_err-stmts-clause-told g c source start run told files defined =
       Appends-nil _,
       rw (p.1, p.2) (script_end run start c.args.db.now folder state command source c.in_err-stmts.field-0.0 c.in_err-stmts.ensures.stops
           (c.in_err-stmts.ensures.stopped source (λ r. told (run_words words command is r)))
-          (λ line r fault. c.defined_runs.ensures.no_script words source line start run (run_words words command is r) fault defined)),
+          (λ why r fault. c.defined_runs.ensures.no_script words source why start run (run_words words command is r) fault defined)),
     )
 
 pub returns-in_err-stmts-clause-untouched : goal.returns-in_err-stmts-clause-untouched
@@ -79,7 +79,7 @@ returns-clause-ended g c =
     let is = c.in_ok-command.ensures.command in
     let stmts = c.in_ok-stmts.stmts in
     end_late words _ command is c.run_statements.result c.run_statements.ensures.late
-    (λ source line run told fault. c.defined_runs.ensures.no_fault source line stmts
+    (λ source why run told fault. c.defined_runs.ensures.no_fault source why stmts
     (subst (λ k. IsScriptOf k source stmts) (sym (c.defined_runs.ensures.command words (commands.Run run.0) command run.1 is)) (c.in_ok-stmts.ensures.script source (λ r. told))) fault)
 
 pub returns-clause-reads : goal.returns-clause-reads
@@ -137,7 +137,7 @@ returns-in_err-stmts-clause-asked g c source start run told files defined =
     let state = state_at_start start c.args.db.now folder c.no_statements.ensures c.requires.empty files in
     rw (p.1, p.2) (script-asks run start c.args.db.now folder _ state command source c.in_err-stmts.field-0.0 c.in_err-stmts.ensures.stops
     (c.in_err-stmts.ensures.stopped source (λ r. told (run_words words command is r)))
-    (λ line r fault. c.defined_runs.ensures.no_script words source line start run (run_words words command is r) fault defined))
+    (λ why r fault. c.defined_runs.ensures.no_script words source why start run (run_words words command is r) fault defined))
 
 pub returns-clause-asked : goal.returns-clause-asked
 returns-clause-asked g c source start run told files defined =

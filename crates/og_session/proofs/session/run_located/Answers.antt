@@ -1,5 +1,5 @@
 use Rattle.std.proofs.Common.{◌∙◌, ap}
-use Rattle.og_session.proofs.EndedLemmas.{last_line}
+use Rattle.og_session.proofs.EndedLemmas.{same_end}
 use Rattle.og_session.proofs.HeadlineLemmas.{headline}
 use Rattle.og_session.proofs.session.run_located.Goals as goal
 
@@ -14,7 +14,7 @@ returns-clause-fault g c source start run is left folder defined =
     let end = c.run_to_end-end.ensures in
     let told = end.told source start run (λ r. left) folder defined in
     record {
-      fault = λ fault by. last_line run start c.run_to_end-end.new.db (g.F.Files.folder c.run_to_end-end.new.files) told.0 c.run_to_end-end.result fault told.2 by;
+      fault = λ fault by. same_end run start c.run_to_end-end.new.db (g.F.Files.folder c.run_to_end-end.new.files) told.0 c.run_to_end-end.result fault told.2 by;
       script = end.kept source is left;
     }
 
