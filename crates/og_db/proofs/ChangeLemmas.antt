@@ -130,7 +130,7 @@ module _ (touch : List Value → Bool) (cond : Cond) (never : (row : List Value)
   module _ (db : List (Held Relation)) (name : List ℕ) (rel rows : Relation) (is : rows_of db name ≡ Some rel) (apart : IsDistinct bytes_eq (map (λ h. h.name) db)) (touched : rows ≡ passing touch rel) where
     -- so a name is changed as DELETE says
     pub left_names : (left : Relation) → ((d : ℤ) → IsRefDay d → relation_at row_order row_at left d ≡ filter (λ row. not (truth d row cond)) (relation_at row_order row_at rows d))
-        → (d : ℤ) → IsRefDay d → names_at d (changed_at name (instead touch left) db) ≡ names_after d (names_at d db) (t.Delete name cond)
+        → (d : ℤ) → IsRefDay d → names_at d (changed_at name (instead touch left) db) ≡ names_after d (names_at d db) (t.Delete name cond, tt)
     left_names left law d day =
         ap (names_at d) (sym (put_at-made name rel (instead touch left) db is apart))
         ∙ made_of-changed_to name (λ rows. relation_at row_order row_at rows d) rel (instead touch left rel) (filter (λ row. not (truth d row cond))) db is apart
@@ -138,7 +138,7 @@ module _ (touch : List Value → Bool) (cond : Cond) (never : (row : List Value)
 
     -- with no more rows than its size
     pub left_sizes : (left : Relation) → length left ≤ length rows
-        → AreWithin (sizes_at (changed_at name (instead touch left) db)) (name_sizes_after (sizes_at db) (t.Delete name cond))
+        → AreWithin (sizes_at (changed_at name (instead touch left) db)) (name_sizes_after (sizes_at db) (t.Delete name cond, tt))
     left_sizes left most =
         subst (λ now. AreWithin (sizes_at now) (sizes_at db)) (put_at-made name rel (instead touch left) db is apart)
         (subst (AreWithin (sizes_at (changed_at name (λ _. instead touch left rel) db))) (changed_same name (sizes_at db))
@@ -148,7 +148,7 @@ module _ (touch : List Value → Bool) (cond : Cond) (never : (row : List Value)
     pub changed_names : (sets : List Assign) (changed : Relation)
         → ((d : ℤ) → IsRefDay d → relation_at row_order row_at changed d
         ≡ set_of row_order (map (λ row. if truth d row cond then assigned d sets row else row) (relation_at row_order row_at rows d)))
-        → (d : ℤ) → IsRefDay d → names_at d (changed_at name (instead touch changed) db) ≡ names_after d (names_at d db) (t.Update name sets cond)
+        → (d : ℤ) → IsRefDay d → names_at d (changed_at name (instead touch changed) db) ≡ names_after d (names_at d db) (t.Update name sets cond, tt)
     changed_names sets changed law d day =
         ap (names_at d) (sym (put_at-made name rel (instead touch changed) db is apart))
         ∙ made_of-changed_to name (λ rows. relation_at row_order row_at rows d) rel (instead touch changed rel)
@@ -157,9 +157,9 @@ module _ (touch : List Value → Bool) (cond : Cond) (never : (row : List Value)
 
     -- with no more rows than its size
     pub changed_sizes : (sets : List Assign) (changed : Relation) → length changed ≤ 2 * length rows
-        → AreWithin (sizes_at (changed_at name (instead touch changed) db)) (name_sizes_after (sizes_at db) (t.Update name sets cond))
+        → AreWithin (sizes_at (changed_at name (instead touch changed) db)) (name_sizes_after (sizes_at db) (t.Update name sets cond, tt))
     changed_sizes sets changed most =
-        subst (λ now. AreWithin (sizes_at now) (name_sizes_after (sizes_at db) (t.Update name sets cond))) (put_at-made name rel (instead touch changed) db is apart)
+        subst (λ now. AreWithin (sizes_at now) (name_sizes_after (sizes_at db) (t.Update name sets cond, tt))) (put_at-made name rel (instead touch changed) db is apart)
         (within-made_to name length rel (instead touch changed rel) (λ n. 2 * n) db is apart
         (omega (arith, length-instead touch rel changed, most, ap length touched, length-filter_both (λ p. touch p.0) (λ p. not (touch p.0)) (λ p. refl) rel)))
 

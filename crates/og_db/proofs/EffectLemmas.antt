@@ -11,13 +11,13 @@ use Rattle.og_value.specs.declared.kind.What.TheVariants as what
 use Rattle.og_value.specs.declared.schema.Column.{Column}
 use Rattle.og_value.specs.declared.value.Value.{Value}
 use Rattle.og_rel.specs.Relations.{relation_at}
-use Rattle.og_query.specs.declared.typed.Typed.{Typed}
 use Rattle.og_query.specs.declared.typed.Typed.TheVariants as t
 use Rattle.og_db.specs.Held.{Held, found, made_of, all_made_of}
 use Rattle.og_db.specs.Database.{Relation, names_at}
 use Rattle.og_db.specs.Effects.{Effect, Store, World, on_names, saved, reopened, opened, imported, kept_as, with_file, with_name, statement_names, ordinary_statement, world_of_day, statement_sizes, size_after, sizes_after}
 use Rattle.og_db.specs.Live.{Live}
 use Rattle.og_db.specs.Runs.{IsWithin, AreWithin, IsWorldOf, sizes_at, live_of}
+use Rattle.og_db.specs.Statements.{OfNames}
 use Rattle.og_db.proofs.LiveLemmas.{live_on_day, within-statement}
 use Rattle.og_db.proofs.SizeLemmas.{within-refl, within-trans, within-push, within-added}
 use Rattle.og_db.proofs.WorldLemmas.{all_made_of-push, found-made_of}
@@ -80,7 +80,7 @@ within-with_name name (Some h) None a b both v = absurd both
 within-with_name name (Some h) (Some m) a b both v = within-push a b (kept_as name h) (kept_as name m) v (within-kept_as name h m both)
 
 -- where the same names are live, a statement of names leaves no more rows where there were no more
-within-lived : (a b : Store ℕ) → a.live ≡ b.live → AreWithin a.names b.names → (stmt : Typed) → AreWithin (statement_sizes a.live a.names stmt) (statement_sizes b.live b.names stmt)
+within-lived : (a b : Store ℕ) → a.live ≡ b.live → AreWithin a.names b.names → (stmt : OfNames) → AreWithin (statement_sizes a.live a.names stmt) (statement_sizes b.live b.names stmt)
 within-lived a b live v stmt = subst (λ l. AreWithin (statement_sizes a.live a.names stmt) (statement_sizes l b.names stmt)) live (within-statement a.live a.names b.names v stmt)
 
 -- a statement leaves no more rows of names where there were no more
@@ -89,7 +89,7 @@ within-names a b live v w (on_names stmt) = within-lived a b live v stmt
 within-names a b live v w (saved name file) = v
 within-names a b live v w (reopened name file) = within-with_name name (found a.files file) (found b.files file) a.names b.names (within-found file a.files b.files w) v
 within-names a b live v w (opened name columns rel) = within-push a.names b.names _ _ v (record { name = refl; what = refl; rows = omega arith })
-within-names a b live v w (imported name rows) = within-lived a b live v (t.Insert name rows)
+within-names a b live v w (imported name rows) = within-lived a b live v (t.Insert name rows, tt)
 
 -- and no more rows of files
 within-files : (a b : Store ℕ) → AreWithin a.names b.names → AreWithin a.files b.files → (e : Effect) → AreWithin (size_after a e).files (size_after b e).files
@@ -134,15 +134,15 @@ stepped e db files db' files' effects names_law files_law names_size files_size 
     sizes = fold-append size_after (record { names = []; files = []; live = [] }) effects (e ∷ [])
 
 -- a statement that acts on names alone
-pub one_more : (old new files : List (Held Relation)) (stmt : Typed) (effects : List Effect)
+pub one_more : (old new files : List (Held Relation)) (stmt : OfNames) (effects : List Effect)
     → ((d : ℤ) → IsRefDay d → names_at d new ≡ statement_names d (live_of effects) (names_at d old) stmt)
     → AreWithin (sizes_at new) (statement_sizes (live_of effects) (sizes_at old) stmt) → IsWorldOf old files effects → IsWorldOf new files (effects ++ on_names stmt ∷ [])
 one_more old new files stmt effects law size = stepped (on_names stmt) old files new files effects law (λ d day. refl) size (within-refl (sizes_at files))
 
 -- an IMPORT
 pub imported_more : (old new files : List (Held Relation)) (name : List ℕ) (rows : List (List Value)) (effects : List Effect)
-    → ((d : ℤ) → IsRefDay d → names_at d new ≡ statement_names d (live_of effects) (names_at d old) (t.Insert name rows))
-    → AreWithin (sizes_at new) (statement_sizes (live_of effects) (sizes_at old) (t.Insert name rows)) → IsWorldOf old files effects
+    → ((d : ℤ) → IsRefDay d → names_at d new ≡ statement_names d (live_of effects) (names_at d old) (t.Insert name rows, tt))
+    → AreWithin (sizes_at new) (statement_sizes (live_of effects) (sizes_at old) (t.Insert name rows, tt)) → IsWorldOf old files effects
     → IsWorldOf new files (effects ++ imported name rows ∷ [])
 imported_more old new files name rows effects law size = stepped (imported name rows) old files new files effects law (λ d day. refl) size (within-refl (sizes_at files))
 

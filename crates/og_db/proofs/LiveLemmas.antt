@@ -8,7 +8,7 @@ use Rattle.og_db.specs.Effects.{Effect, Store, World, on_names, saved, reopened,
 use Rattle.og_db.specs.Held.{Held}
 use Rattle.og_db.specs.Live.{Live, live_after, query_of, kept_with, has_ended, settled, answered, refreshed, followed}
 use Rattle.og_db.specs.Runs.{IsWithin, AreWithin, live_of}
-use Rattle.og_db.specs.Statements.{named_sizes, name_sizes_after}
+use Rattle.og_db.specs.Statements.{OfNames, named_sizes, name_sizes_after}
 use Rattle.og_db.proofs.SizeLemmas.{query_more, within-after, within-named}
 
 -- names are what they are where none is live
@@ -48,20 +48,20 @@ within-refreshed f g more live (h ∷ a) (m ∷ b) v =
     at (Some query) = record { name = v.0.name; what = v.0.what; rows = more query }
 
 -- a statement leaves no more rows where there were no more
-pub within-statement : (live : List Live) (a b : List (Held ℕ)) → AreWithin a b → (stmt : Typed) → AreWithin (statement_sizes live a stmt) (statement_sizes live b stmt)
+pub within-statement : (live : List Live) (a b : List (Held ℕ)) → AreWithin a b → (stmt : OfNames) → AreWithin (statement_sizes live a stmt) (statement_sizes live b stmt)
 within-statement live a b v stmt = within-followed (name_sizes_after a stmt) (name_sizes_after b stmt) (within-after a b v stmt)
   where
     followed_sizes : List (Held ℕ) → List (Held ℕ)
-    followed_sizes = followed (λ after. query_size (named_sizes after)) live stmt
+    followed_sizes = followed (λ after. query_size (named_sizes after)) live stmt.0
 
     within-followed : (a b : List (Held ℕ)) → AreWithin a b → AreWithin (followed_sizes a) (followed_sizes b)
     within-followed a b v =
-        within-refreshed (query_size (named_sizes a)) (query_size (named_sizes b)) (query_more (named_sizes a) (named_sizes b) (λ name. within-named name a b v)) (live_after live stmt)
-        (settled live (live_after live stmt) a) (settled live (live_after live stmt) b) (within-settled live (live_after live stmt) a b v)
+        within-refreshed (query_size (named_sizes a)) (query_size (named_sizes b)) (query_more (named_sizes a) (named_sizes b) (λ name. within-named name a b v)) (live_after live stmt.0)
+        (settled live (live_after live stmt.0) a) (settled live (live_after live stmt.0) b) (within-settled live (live_after live stmt.0) a b v)
 
 -- the same names are live on a day as in the sizes after a statement
 live_step : (d : ℤ) (world : World) (sizes : Store ℕ) → world.live ≡ sizes.live → (e : Effect) → (ordinary_statement d world e).live ≡ (size_after sizes e).live
-live_step d world sizes same (on_names stmt) = ap (λ live. live_after live stmt) same
+live_step d world sizes same (on_names stmt) = ap (λ live. live_after live stmt.0) same
 live_step d world sizes same (saved name file) = same
 live_step d world sizes same (reopened name file) = same
 live_step d world sizes same (opened name columns rel) = same

@@ -11,12 +11,11 @@ use Rattle.og_query.specs.declared.query.Core.{Core}
 use Rattle.og_query.specs.declared.query.From1.{From1}
 use Rattle.og_query.specs.declared.query.Query.{Query}
 use Rattle.og_query.specs.declared.query.Rest.{Rest}
-use Rattle.og_query.specs.declared.typed.Typed.{Typed}
 use Rattle.og_query.specs.declared.typed.Typed.TheVariants as t
 use Rattle.og_db.specs.Held.{Held, described, found, known_of, rows_of, made_of, all_made_of, changed_at, without}
 use Rattle.og_db.specs.Database.{Relation}
 use Rattle.og_db.specs.Runs.{IsWithin, AreWithin, sizes_at}
-use Rattle.og_db.specs.Statements.{or_else, named_sizes, name_sizes_after}
+use Rattle.og_db.specs.Statements.{OfNames, or_else, named_sizes, name_sizes_after}
 use Rattle.og_db.proofs.WorldLemmas.{rows_found, all_made_of-push, all_made_of-without}
 
 -- names are within themselves
@@ -149,22 +148,22 @@ module _ (a b : Sizes) (more : (name : List ℕ) → a name ≤ b name) where
   query_more query = rests_more query.rest (core_size a query.first) (core_size b query.first) (core_more query.first)
 
 -- a statement leaves no more rows where there were no more
-pub within-after : (a b : List (Held ℕ)) → AreWithin a b → (stmt : Typed) → AreWithin (name_sizes_after a stmt) (name_sizes_after b stmt)
-within-after a b v (t.Create name columns) = within-push a b _ _ v (record { name = refl; what = refl; rows = omega arith })
-within-after a b v (t.Insert name tuples) = within-changed_at name (λ n. n + length tuples) (λ m n h. omega (arith, h)) a b v
-within-after a b v (t.Delete name cond) = v
-within-after a b v (t.Update name sets cond) = within-changed_at name (λ n. 2 * n) (λ m n h. omega (arith, h)) a b v
-within-after a b v (t.Drop name) = within-without name a b v
-within-after a b v t.Tables = v
-within-after a b v (t.Keep name query) = within-push a b _ _ v (record { name = refl; what = refl; rows = query_more (named_sizes a) (named_sizes b) (λ n. within-named n a b v) query })
-within-after a b v (t.PrintName name day) = v
-within-after a b v (t.PrintQuery query day) = v
-within-after a b v (t.Save name file) = v
-within-after a b v (t.OpenFile name file) = v
-within-after a b v (t.ImportFile name file) = v
-within-after a b v (t.Explain query) = v
-within-after a b v (t.Valid name day) = v
-within-after a b v (t.Live name query) = within-push a b _ _ v (record { name = refl; what = refl; rows = query_more (named_sizes a) (named_sizes b) (λ n. within-named n a b v) query })
+pub within-after : (a b : List (Held ℕ)) → AreWithin a b → (stmt : OfNames) → AreWithin (name_sizes_after a stmt) (name_sizes_after b stmt)
+within-after a b v (t.Create name columns, of) = within-push a b _ _ v (record { name = refl; what = refl; rows = omega arith })
+within-after a b v (t.Insert name tuples, of) = within-changed_at name (λ n. n + length tuples) (λ m n h. omega (arith, h)) a b v
+within-after a b v (t.Delete name cond, of) = v
+within-after a b v (t.Update name sets cond, of) = within-changed_at name (λ n. 2 * n) (λ m n h. omega (arith, h)) a b v
+within-after a b v (t.Drop name, of) = within-without name a b v
+within-after a b v (t.Tables, of) = v
+within-after a b v (t.Keep name query, of) = within-push a b _ _ v (record { name = refl; what = refl; rows = query_more (named_sizes a) (named_sizes b) (λ n. within-named n a b v) query })
+within-after a b v (t.PrintName name day, of) = v
+within-after a b v (t.PrintQuery query day, of) = v
+within-after a b v (t.Save name file, of) = absurd of
+within-after a b v (t.OpenFile name file, of) = absurd of
+within-after a b v (t.ImportFile name file, of) = absurd of
+within-after a b v (t.Explain query, of) = v
+within-after a b v (t.Valid name day, of) = v
+within-after a b v (t.Live name query, of) = within-push a b _ _ v (record { name = refl; what = refl; rows = query_more (named_sizes a) (named_sizes b) (λ n. within-named n a b v) query })
 
 -- the sizes of names with one more that has no more rows
 pub within-added : (old : List (Held Relation)) (h : Held Relation) (most : Held ℕ) → IsWithin (made_of length h) most → AreWithin (sizes_at (old ++ h ∷ [])) (sizes_at old ++ most ∷ [])

@@ -71,8 +71,8 @@ impl Db {
         requires { IsNew (known_of self.old) name }
         ensures created { OnOk result (self.new ≡ self.old ++ record { name = name; what = what.Table; columns = schema; rows = [] } ∷ []) }
         ensures law { OnOk result ((d : ℤ) → IsRefDay d →
-            names_at d self.new ≡ names_after d (names_at d self.old) (t.Create name schema)) }
-        ensures size { OnOk result (AreWithin (sizes_at self.new) (name_sizes_after (sizes_at self.old) (t.Create name schema))) }
+            names_at d self.new ≡ names_after d (names_at d self.old) (t.Create name schema, tt)) }
+        ensures size { OnOk result (AreWithin (sizes_at self.new) (name_sizes_after (sizes_at self.old) (t.Create name schema, tt))) }
         ensures refused { OnErr result (self.new ≡ self.old) }
     {
         let rel = Rel::new(*self.names.allocator());
@@ -87,9 +87,9 @@ impl Db {
         ensures kept { OnOk result (self.new ≡ self.old ++ record { name = name; what = what.Kept; columns = schema; rows = rel } ∷ []) }
         ensures law { OnOk result ((query : Query) → schema ≡ query.first.schema →
             ((d : ℤ) → IsRefDay d → relation_at row_order row_at rel d ≡ ordinary_query d (named_rows (names_at d self.old)) query) →
-            (d : ℤ) → IsRefDay d → names_at d self.new ≡ names_after d (names_at d self.old) (t.Keep name query)) }
+            (d : ℤ) → IsRefDay d → names_at d self.new ≡ names_after d (names_at d self.old) (t.Keep name query, tt)) }
         ensures size { OnOk result ((query : Query) → schema ≡ query.first.schema → length rel ≤ query_size (named_sizes (sizes_at self.old)) query →
-            AreWithin (sizes_at self.new) (name_sizes_after (sizes_at self.old) (t.Keep name query))) }
+            AreWithin (sizes_at self.new) (name_sizes_after (sizes_at self.old) (t.Keep name query, tt))) }
         ensures refused { OnErr result (self.new ≡ self.old) }
     {
         self.enter(name, What::Kept, schema, rel)
@@ -216,10 +216,10 @@ impl Db {
         requires table { (columns : List Column) × IsTableOf columns self.old name.now × All (IsFitRow columns) rows.items }
         ensures added { OnOk result (self.new ≡ changed_at name.now (λ rel. rel ++ on_all_days rows.items) self.old) }
         ensures law { OnOk result ((d : ℤ) → IsRefDay d →
-            names_at d self.new ≡ names_after d (names_at d self.old) (t.Insert name.now rows.items)) }
+            names_at d self.new ≡ names_after d (names_at d self.old) (t.Insert name.now rows.items, tt)) }
         ensures known { OnOk result ((other : List ℕ) → known_of self.new other ≡ known_of self.old other) }
         ensures others { OnOk result (AreKept name.now self.old self.new) }
-        ensures size { OnOk result (AreWithin (sizes_at self.new) (name_sizes_after (sizes_at self.old) (t.Insert name.now rows.items))) }
+        ensures size { OnOk result (AreWithin (sizes_at self.new) (name_sizes_after (sizes_at self.old) (t.Insert name.now rows.items, tt))) }
         ensures refused { OnErr result (self.new ≡ self.old) }
     {
         let more = on_all_days(*self.names.allocator(), rows)?;
@@ -231,10 +231,10 @@ impl Db {
     pub fn delete(&mut self, name: &Name, cond: &Cond) -> Result<(), NoMemory>
         requires table { (columns : List Column) × IsTableOf columns self.old name.now }
         ensures law { OnOk result ((d : ℤ) → IsRefDay d →
-            names_at d self.new ≡ names_after d (names_at d self.old) (t.Delete name.now cond.now)) }
+            names_at d self.new ≡ names_after d (names_at d self.old) (t.Delete name.now cond.now, tt)) }
         ensures known { OnOk result ((other : List ℕ) → known_of self.new other ≡ known_of self.old other) }
         ensures others { OnOk result (AreKept name.now self.old self.new) }
-        ensures size { OnOk result (AreWithin (sizes_at self.new) (name_sizes_after (sizes_at self.old) (t.Delete name.now cond.now))) }
+        ensures size { OnOk result (AreWithin (sizes_at self.new) (name_sizes_after (sizes_at self.old) (t.Delete name.now cond.now, tt))) }
         ensures refused { OnErr result (self.new ≡ self.old) }
     {
         bounds_hold();
@@ -251,10 +251,10 @@ impl Db {
     pub fn update(&mut self, name: &Name, sets: &[Assign], cond: &Cond) -> Result<(), NoMemory>
         requires table { (columns : List Column) × IsTableOf columns self.old name.now × All (IsFitAssign columns) sets.now }
         ensures law { OnOk result ((d : ℤ) → IsRefDay d →
-            names_at d self.new ≡ names_after d (names_at d self.old) (t.Update name.now sets.now cond.now)) }
+            names_at d self.new ≡ names_after d (names_at d self.old) (t.Update name.now sets.now cond.now, tt)) }
         ensures known { OnOk result ((other : List ℕ) → known_of self.new other ≡ known_of self.old other) }
         ensures others { OnOk result (AreKept name.now self.old self.new) }
-        ensures size { OnOk result (AreWithin (sizes_at self.new) (name_sizes_after (sizes_at self.old) (t.Update name.now sets.now cond.now))) }
+        ensures size { OnOk result (AreWithin (sizes_at self.new) (name_sizes_after (sizes_at self.old) (t.Update name.now sets.now cond.now, tt))) }
         ensures refused { OnErr result (self.new ≡ self.old) }
     {
         bounds_hold();
@@ -294,8 +294,8 @@ impl Db {
     /// Takes a name out. The others keep their order.
     pub fn drop_name(&mut self, name: &Name)
         ensures dropped { self.new ≡ without name.now self.old }
-        ensures law { (d : ℤ) → IsRefDay d → names_at d self.new ≡ names_after d (names_at d self.old) (t.Drop name.now) }
-        ensures size { AreWithin (sizes_at self.new) (name_sizes_after (sizes_at self.old) (t.Drop name.now)) }
+        ensures law { (d : ℤ) → IsRefDay d → names_at d self.new ≡ names_after d (names_at d self.old) (t.Drop name.now, tt) }
+        ensures size { AreWithin (sizes_at self.new) (name_sizes_after (sizes_at self.old) (t.Drop name.now, tt)) }
     {
         let _ = self.names.len();
         self.names.shift_remove(name);

@@ -9,7 +9,6 @@ ghost use Rattle.og_value.specs.Values.{row_at};
 ghost use Rattle.og_value.specs.declared.kind.What.TheVariants as what;
 ghost use Rattle.og_value.specs.declared.schema.Column.{Column};
 ghost use Rattle.og_value.specs.declared.value.Value.{Value};
-ghost use Rattle.og_query.specs.declared.typed.Typed.{Typed};
 ghost use Rattle.og_query.specs.declared.typed.Typed.TheVariants as t;
 ghost use Rattle.og_db.specs.Database.{Relation, HaveKinds, names_at};
 ghost use Rattle.og_db.specs.Fits.{IsFitFixed};
@@ -17,7 +16,7 @@ ghost use Rattle.og_db.specs.Held.{Held, found, known_of, made_of};
 ghost use Rattle.og_db.specs.Effects.{Effect, on_names, saved, reopened, opened, imported, with_file, with_name, statement_names, statement_sizes};
 ghost use Rattle.og_db.specs.Live.{live_after};
 ghost use Rattle.og_db.specs.Runs.{AreWithin, IsWorldOf, known_after, live_of, sizes_at};
-ghost use Rattle.og_db.specs.Statements.{Names, names_after, name_sizes_after};
+ghost use Rattle.og_db.specs.Statements.{Names, OfNames, names_after, name_sizes_after};
 
 /// A database without names, and no file that was saved, are the world of each day before any statement.
 pub fn no_statements()
@@ -34,13 +33,13 @@ pub fn known_names()
 /// name is live before that statement and after it, it is what it does to the names. Names are within their own
 /// sizes.
 pub fn one_statement_more()
-    ensures done { (old new files : List (Held Relation)) (stmt : Typed) (effects : List Effect) →
+    ensures done { (old new files : List (Held Relation)) (stmt : OfNames) (effects : List Effect) →
         ((d : ℤ) → IsRefDay d → names_at d new ≡ statement_names d (live_of effects) (names_at d old) stmt) →
         AreWithin (sizes_at new) (statement_sizes (live_of effects) (sizes_at old) stmt) → IsWorldOf old files effects → IsWorldOf new files (effects ++ on_names stmt ∷ []) }
     ensures same { (sizes : List (Held ℕ)) → AreWithin sizes sizes }
-    ensures no_live_names { (effects : List Effect) (stmt : Typed) → live_of effects ≡ [] → live_after [] stmt ≡ [] →
+    ensures no_live_names { (effects : List Effect) (stmt : OfNames) → live_of effects ≡ [] → live_after [] stmt.0 ≡ [] →
         (d : ℤ) (names : Names) → statement_names d (live_of effects) names stmt ≡ names_after d names stmt }
-    ensures no_live_sizes { (effects : List Effect) (stmt : Typed) → live_of effects ≡ [] → live_after [] stmt ≡ [] →
+    ensures no_live_sizes { (effects : List Effect) (stmt : OfNames) → live_of effects ≡ [] → live_after [] stmt.0 ≡ [] →
         (sizes : List (Held ℕ)) → statement_sizes (live_of effects) sizes stmt ≡ name_sizes_after sizes stmt }
 {}
 
@@ -54,8 +53,8 @@ pub fn one_file_more()
     ensures opened { (db files : List (Held Relation)) (name : List ℕ) (columns : List Column) (rel : Relation) (effects : List Effect) → IsWorldOf db files effects →
         IsWorldOf (db ++ record { name = name; what = what.Kept; columns = columns; rows = rel } ∷ []) files (effects ++ opened name columns rel ∷ []) }
     ensures imported { (old new files : List (Held Relation)) (name : List ℕ) (rows : List (List Value)) (effects : List Effect) →
-        ((d : ℤ) → IsRefDay d → names_at d new ≡ statement_names d (live_of effects) (names_at d old) (t.Insert name rows)) →
-        AreWithin (sizes_at new) (statement_sizes (live_of effects) (sizes_at old) (t.Insert name rows)) → IsWorldOf old files effects →
+        ((d : ℤ) → IsRefDay d → names_at d new ≡ statement_names d (live_of effects) (names_at d old) (t.Insert name rows, tt)) →
+        AreWithin (sizes_at new) (statement_sizes (live_of effects) (sizes_at old) (t.Insert name rows, tt)) → IsWorldOf old files effects →
         IsWorldOf new files (effects ++ imported name rows ∷ []) }
 {}
 

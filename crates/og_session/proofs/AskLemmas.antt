@@ -7,9 +7,9 @@ use Rattle.og_io.specs.Sources.{TakesAtMost}
 use Rattle.og_db.specs.Database.{Relation}
 use Rattle.og_db.specs.Effects.{Effect, on_names, saved, sizes_after}
 use Rattle.og_db.specs.Held.{Held, found}
+use Rattle.og_db.specs.Statements.{OfNames}
 use Rattle.og_value.specs.declared.schema.Column.{Column}
 use Rattle.og_value.specs.declared.value.Value.{Value}
-use Rattle.og_query.specs.declared.typed.Typed.{Typed}
 use Rattle.og_query.specs.declared.typed.Typed.TheVariants as t
 use Rattle.og_file.specs.SavedFile.{Pair}
 use Rattle.og_file.specs.declared.refusal.FileRefusal.{FileRefusal}
@@ -123,7 +123,7 @@ module _ (contents : Contents) (before : List Effect) (name file : List ℕ) (en
   import-asks = once_or_refused (effect_of contents before (t.ImportFile name file)) end old now (importing-asks name (columns_after before name) file (found (sizes_after before).files file) (contents file)) h
 
 -- a statement on names asks for no file
-pub names-ask : (stmt : Typed) (end : Result (Unit {0}) Stop) (old : ℕ) → StepAsks (Ok (on_names stmt)) end old old
+pub names-ask : (stmt : OfNames) (end : Result (Unit {0}) Stop) (old : ℕ) → StepAsks (Ok (on_names stmt)) end old old
 names-ask stmt (Ok done) old = sym (count_after-none old)
 names-ask stmt (Err stop) old = inl refl
 

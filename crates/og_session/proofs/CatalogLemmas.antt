@@ -10,7 +10,7 @@ use Rattle.og_db.specs.Effects.{Effect, Store, World, on_names, saved, reopened,
 use Rattle.og_db.specs.Held.{Held, all_made_of, changed_at, found, known_of, made_of, without}
 use Rattle.og_db.specs.Live.{Live, followed, live_after, refreshed, settled}
 use Rattle.og_db.specs.Runs.{known_after}
-use Rattle.og_db.specs.Statements.{Names, name_sizes_after, named_rows, named_sizes, names_after}
+use Rattle.og_db.specs.Statements.{Names, OfNames, name_sizes_after, named_rows, named_sizes, names_after}
 use Rattle.og_db.proofs.EffectLemmas.{file-made_of, name-made_of}
 use Rattle.og_db.proofs.LiveNames.{all_made_of-refreshed, all_made_of-settled}
 use Rattle.og_db.proofs.WorldLemmas.{all_made_of-push, all_made_of-without, known_of-made_of}
@@ -45,27 +45,27 @@ module _ {V W : Type 0} (a : List (Held V)) (b : List (Held W)) (same : bare a �
       ∙ sym (all_made_of-refreshed (λ _. tt) (g b) after (settled live after b))
 
 -- a statement on names does the same to them on each day and in the sizes
-bare-statement : (d : ℤ) (names : Names) (sizes : List (Held ℕ)) → bare names ≡ bare sizes → (stmt : Typed) → bare (names_after d names stmt) ≡ bare (name_sizes_after sizes stmt)
-bare-statement d names sizes same (t.Create name columns) = bare-push names sizes same _ _ refl
-bare-statement d names sizes same (t.Insert name rows) = bare-changed name _ names ∙ same ∙ sym (bare-changed name _ sizes)
-bare-statement d names sizes same (t.Delete name cond) = bare-changed name _ names ∙ same
-bare-statement d names sizes same (t.Update name sets cond) = bare-changed name _ names ∙ same ∙ sym (bare-changed name _ sizes)
-bare-statement d names sizes same (t.Drop name) = all_made_of-without (λ _. tt) name names ∙ ap (without name) same ∙ sym (all_made_of-without (λ _. tt) name sizes)
-bare-statement d names sizes same (t.Keep name query) = bare-push names sizes same _ _ refl
-bare-statement d names sizes same t.Tables = same
-bare-statement d names sizes same (t.PrintName name day) = same
-bare-statement d names sizes same (t.PrintQuery query day) = same
-bare-statement d names sizes same (t.Save name file) = same
-bare-statement d names sizes same (t.OpenFile name file) = same
-bare-statement d names sizes same (t.ImportFile name file) = same
-bare-statement d names sizes same (t.Explain query) = same
-bare-statement d names sizes same (t.Valid name day) = same
-bare-statement d names sizes same (t.Live name query) = bare-push names sizes same _ _ refl
+bare-statement : (d : ℤ) (names : Names) (sizes : List (Held ℕ)) → bare names ≡ bare sizes → (stmt : OfNames) → bare (names_after d names stmt) ≡ bare (name_sizes_after sizes stmt)
+bare-statement d names sizes same (t.Create name columns, of) = bare-push names sizes same _ _ refl
+bare-statement d names sizes same (t.Insert name rows, of) = bare-changed name _ names ∙ same ∙ sym (bare-changed name _ sizes)
+bare-statement d names sizes same (t.Delete name cond, of) = bare-changed name _ names ∙ same
+bare-statement d names sizes same (t.Update name sets cond, of) = bare-changed name _ names ∙ same ∙ sym (bare-changed name _ sizes)
+bare-statement d names sizes same (t.Drop name, of) = all_made_of-without (λ _. tt) name names ∙ ap (without name) same ∙ sym (all_made_of-without (λ _. tt) name sizes)
+bare-statement d names sizes same (t.Keep name query, of) = bare-push names sizes same _ _ refl
+bare-statement d names sizes same (t.Tables, of) = same
+bare-statement d names sizes same (t.PrintName name day, of) = same
+bare-statement d names sizes same (t.PrintQuery query day, of) = same
+bare-statement d names sizes same (t.Save name file, of) = absurd of
+bare-statement d names sizes same (t.OpenFile name file, of) = absurd of
+bare-statement d names sizes same (t.ImportFile name file, of) = absurd of
+bare-statement d names sizes same (t.Explain query, of) = same
+bare-statement d names sizes same (t.Valid name day, of) = same
+bare-statement d names sizes same (t.Live name query, of) = bare-push names sizes same _ _ refl
 
 -- and so where some are live
-bare-live : (d : ℤ) (names : Names) (sizes : List (Held ℕ)) → bare names ≡ bare sizes → (live : List Live) (stmt : Typed) → bare (statement_names d live names stmt) ≡ bare (statement_sizes live sizes stmt)
+bare-live : (d : ℤ) (names : Names) (sizes : List (Held ℕ)) → bare names ≡ bare sizes → (live : List Live) (stmt : OfNames) → bare (statement_names d live names stmt) ≡ bare (statement_sizes live sizes stmt)
 bare-live d names sizes same live stmt =
-    bare-followed (names_after d names stmt) (name_sizes_after sizes stmt) (bare-statement d names sizes same stmt) (λ after. ordinary_query d (named_rows after)) (λ after. query_size (named_sizes after)) live stmt
+    bare-followed (names_after d names stmt) (name_sizes_after sizes stmt) (bare-statement d names sizes same stmt) (λ after. ordinary_query d (named_rows after)) (λ after. query_size (named_sizes after)) live stmt.0
 
 -- the names, the files and the live results of a day are those of the sizes
 record AreBare (world : World) (sizes : Store ℕ) : Type 0 where
@@ -77,7 +77,7 @@ bare-step : (d : ℤ) (world : World) (sizes : Store ℕ) → AreBare world size
 bare-step d world sizes same (on_names stmt) = record {
   names = ap (λ live. bare (statement_names d live world.names stmt)) same.live ∙ bare-live d world.names sizes.names same.names sizes.live stmt;
   files = same.files;
-  live = ap (λ live. live_after live stmt) same.live;
+  live = ap (λ live. live_after live stmt.0) same.live;
 }
 bare-step d world sizes same (saved name file) = record {
   names = same.names;
@@ -95,7 +95,7 @@ bare-step d world sizes same (reopened name file) = record {
 }
 bare-step d world sizes same (opened name columns rel) = record { names = bare-push world.names sizes.names same.names _ _ refl; files = same.files; live = same.live }
 bare-step d world sizes same (imported name rows) = record {
-  names = ap (λ live. bare (statement_names d live world.names (t.Insert name rows))) same.live ∙ bare-live d world.names sizes.names same.names sizes.live (t.Insert name rows);
+  names = ap (λ live. bare (statement_names d live world.names (t.Insert name rows, tt))) same.live ∙ bare-live d world.names sizes.names same.names sizes.live (t.Insert name rows, tt);
   files = same.files;
   live = ap (λ live. live_after live (t.Insert name rows)) same.live;
 }
@@ -113,7 +113,7 @@ known_of_day before d name =
     sym (known_of-made_of (λ _. tt) (world_of_day d before).names name) ∙ ap (λ hs. known_of hs name) (bare-world d before) ∙ known_of-made_of (λ _. tt) (sizes_after before).names name
 
 -- TABLES writes the names of each day
-pub tables_of_day : (before : List Effect) (d : ℤ) → names_text (world_of_day d before).names ≡ piece_of before (on_names t.Tables)
+pub tables_of_day : (before : List Effect) (d : ℤ) → names_text (world_of_day d before).names ≡ piece_of before (on_names (t.Tables, tt))
 tables_of_day before d =
     ap (λ rs. records ((codes "name" ∷ codes "what" ∷ []) ∷ rs))
     (names-made (λ _. tt) (world_of_day d before).names ∙ ap (map (name_record {V = Unit {0}})) (bare-world d before) ∙ sym (names-made (λ _. tt) (sizes_after before).names))

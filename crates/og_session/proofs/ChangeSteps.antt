@@ -20,7 +20,7 @@ use Rattle.og_db.specs.Effects.{on_names, sizes_after}
 use Rattle.og_db.specs.Held.{Held, known_of, rows_of}
 use Rattle.og_db.specs.Live.{Live, refreshed, settled, uses}
 use Rattle.og_db.specs.Runs.{AreWithin, sizes_at}
-use Rattle.og_db.specs.Statements.{named_rows, named_sizes, names_after, name_sizes_after, or_else}
+use Rattle.og_db.specs.Statements.{OfNames, named_rows, named_sizes, names_after, name_sizes_after, or_else}
 use Rattle.og_db.proofs.SizeLemmas.{within-after, within-named, within-trans}
 use Rattle.og_db.proofs.WorldLemmas.{known_of-made_of}
 use Rattle.og_view.specs.Views.{Seen}
@@ -60,7 +60,7 @@ lives_same stmt (v ∷ views) (w ∷ now) paired = λ i. record { name = paired.
 lives_same stmt [] (w ∷ now) paired = absurd paired
 lives_same stmt (v ∷ views) [] paired = absurd paired
 
-module _ (db : List (Held Relation)) (views : Views) (all : AreLiveViews db views) (apart : IsDistinct bytes_eq (map (λ h. h.name) db)) (stmt : Typed) (is : IsChange stmt) where
+module _ (db : List (Held Relation)) (views : Views) (all : AreLiveViews db views) (apart : IsDistinct bytes_eq (map (λ h. h.name) db)) (stmt : OfNames) (is : IsChange stmt.0) where
   abbrev names : List (Held Relation)
   names = with_views views db
 
@@ -68,32 +68,32 @@ module _ (db : List (Held Relation)) (views : Views) (all : AreLiveViews db view
   live = lives_of views
 
   -- a name that is used is not the table, where that is not
-  other_name : (query : Query) (name : List ℕ) → uses query (changed_name stmt) ≡ false → uses query name ≡ true → bytes_eq (changed_name stmt) name ≡ false
-  other_name query name unused used = at (bytes_eq (changed_name stmt) name) refl
+  other_name : (query : Query) (name : List ℕ) → uses query (changed_name stmt.0) ≡ false → uses query name ≡ true → bytes_eq (changed_name stmt.0) name ≡ false
+  other_name query name unused used = at (bytes_eq (changed_name stmt.0) name) refl
     where
-      at : (b : Bool) → bytes_eq (changed_name stmt) name ≡ b → bytes_eq (changed_name stmt) name ≡ false
+      at : (b : Bool) → bytes_eq (changed_name stmt.0) name ≡ b → bytes_eq (changed_name stmt.0) name ≡ false
       at false same = same
-      at true same = absurd (true≢false (sym used ∙ ap (uses query) (sym (same_text (changed_name stmt) name (sym same))) ∙ unused))
+      at true same = absurd (true≢false (sym used ∙ ap (uses query) (sym (same_text (changed_name stmt.0) name (sym same))) ∙ unused))
 
   -- a view that has followed is current
-  current_one : (sizes : List (Held ℕ)) → AreWithin (sizes_at names) sizes → (v : List ℕ × Seen) (w : Seen) → IsLiveView db v → IsUpToDate names sizes v → HasFollowed stmt v.1 w → IsCurrent names sizes stmt w
-  current_one sizes within v w watched fresh followed = at (uses v.1.query (changed_name stmt)) refl
+  current_one : (sizes : List (Held ℕ)) → AreWithin (sizes_at names) sizes → (v : List ℕ × Seen) (w : Seen) → IsLiveView db v → IsUpToDate names sizes v → HasFollowed stmt.0 v.1 w → IsCurrent names sizes stmt w
+  current_one sizes within v w watched fresh followed = at (uses v.1.query (changed_name stmt.0)) refl
     where
       same_use : (name : List ℕ) → uses w.query name ≡ true → uses v.1.query name ≡ true
       same_use name used = subst (λ q. uses q name ≡ true) followed.followed.query used
 
-      at : (b : Bool) → uses v.1.query (changed_name stmt) ≡ b → IsCurrent names sizes stmt w
+      at : (b : Bool) → uses v.1.query (changed_name stmt.0) ≡ b → IsCurrent names sizes stmt w
       at true there =
           let h = followed.followed.used there in record {
             rows = λ name used d day.
                 let u = same_use name used in
-                ap (λ ns. named_rows ns name) (h.law d day)
+                ap (λ ns. named_rows ns name) (h.law stmt.1 d day)
                 ∙ ap (or_else []) (after-same stmt (change-at stmt is) d (names_at d v.1.bases) (names_at d names) name
                 (same_rows [] (names_at d v.1.bases) (names_at d names) name
                 (known_of-made_of (λ rel. relation_at row_order row_at rel d) v.1.bases name ∙ watched.bases name u ∙ sym (known_on_day db views all d name)) (fresh.rows name u d day)));
             most = λ name used.
                 let u = same_use name used in
-                let one = within-named name (sizes_at w.bases) (name_sizes_after (sizes_at v.1.bases) stmt) h.size in
+                let one = within-named name (sizes_at w.bases) (name_sizes_after (sizes_at v.1.bases) stmt) (h.size stmt.1) in
                 let two = sizes-less stmt (change-at stmt is) (sizes_at v.1.bases) sizes name
                 (known_of-made_of length v.1.bases name ∙ watched.bases name u ∙ sym (known_in_sizes db views all sizes within name)) (fresh.most name u) in
                 omega (arith, one, two);
@@ -110,7 +110,7 @@ module _ (db : List (Held Relation)) (views : Views) (all : AreLiveViews db view
                 (subst (λ (s : Seen). named_sizes (sizes_at s.bases) name ≤ named_sizes sizes name) (sym same) (fresh.most name u));
           }
 
-  current_all : (sizes : List (Held ℕ)) → AreWithin (sizes_at names) sizes → (vs ws : Views) → AllByRecursion (IsLiveView db) vs → AllByRecursion (IsUpToDate names sizes) vs → ArePaired (HasFollowed stmt) vs ws
+  current_all : (sizes : List (Held ℕ)) → AreWithin (sizes_at names) sizes → (vs ws : Views) → AllByRecursion (IsLiveView db) vs → AllByRecursion (IsUpToDate names sizes) vs → ArePaired (HasFollowed stmt.0) vs ws
       → AllByRecursion (λ v. IsCurrent names sizes stmt v.1) ws
   current_all sizes within [] [] watched fresh paired = tt
   current_all sizes within (v ∷ vs) (w ∷ ws) watched fresh paired = (current_one sizes within v w.1 watched.0 fresh.0 paired.0.1, current_all sizes within vs ws watched.1 fresh.1 paired.1)
@@ -118,16 +118,16 @@ module _ (db : List (Held Relation)) (views : Views) (all : AreLiveViews db view
   current_all sizes within (v ∷ vs) [] watched fresh paired = absurd paired
 
   -- the table changed, and the views followed
-  pub change_done : (new : List (Held Relation)) (now : Views) → AreLiveViews new now → ArePaired (HasFollowed stmt) views now
+  pub change_done : (new : List (Held Relation)) (now : Views) → AreLiveViews new now → ArePaired (HasFollowed stmt.0) views now
       → ((d : ℤ) → IsRefDay d → names_at d new ≡ names_after d (names_at d db) stmt) → AreWithin (sizes_at new) (name_sizes_after (sizes_at db) stmt) → IsDone (watched db views) (watched new now) (on_names stmt)
   change_done new now watched_now paired law size files effects running =
       let sizes = (sizes_after effects).names in
-      let same = lives_same stmt views now paired in
+      let same = lives_same stmt.0 views now paired in
       carried_out (watched db views) new files now stmt effects
       (record {
         running = running;
         watched = watched_now;
-        live = same ∙ sym (change-live stmt is live);
+        live = same ∙ sym (change-live stmt.0 is live);
         alike = λ d day f.
             subst (λ l. refreshed f l (names_at d new) ≡ refreshed f l (settled live l (names_after d (names_at d names) stmt))) (sym same)
             (ap (refreshed f live) (law d day)

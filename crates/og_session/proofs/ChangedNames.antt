@@ -11,7 +11,7 @@ use Rattle.og_query.specs.declared.typed.Typed.{Typed}
 use Rattle.og_query.specs.declared.typed.Typed.TheVariants as t
 use Rattle.og_db.specs.Held.{Held, described, found, known_of, rows_of, made_of, changed_at}
 use Rattle.og_db.specs.Live.{Live, answered, live_after, query_of, refreshed}
-use Rattle.og_db.specs.Statements.{Names, named_sizes, names_after, name_sizes_after, or_else}
+use Rattle.og_db.specs.Statements.{Names, OfNames, named_sizes, names_after, name_sizes_after, or_else}
 use Rattle.og_db.proofs.LiveNames.{refreshed-changed_at}
 use Rattle.og_db.proofs.WorldLemmas.{changed_same}
 use Rattle.og_session.specs.Following.{IsChange, changed_name}
@@ -123,47 +123,47 @@ change-live (t.Valid name day) is live = absurd is
 change-live (t.Live name query) is live = absurd is
 
 -- what they make of the names of one day, and of sizes, is a change of one name
-pub record IsChangedAt (stmt : Typed) : Type 0 where
-  pub at_day : (d : ℤ) → (change : List Fixed → List Fixed) × ((names : Names) → names_after d names stmt ≡ changed_at (changed_name stmt) change names)
-  pub at_size : (change : ℕ → ℕ) × ((m n : ℕ) → m ≤ n → change m ≤ change n) × ((sizes : List (Held ℕ)) → name_sizes_after sizes stmt ≡ changed_at (changed_name stmt) change sizes)
+pub record IsChangedAt (stmt : OfNames) : Type 0 where
+  pub at_day : (d : ℤ) → (change : List Fixed → List Fixed) × ((names : Names) → names_after d names stmt ≡ changed_at (changed_name stmt.0) change names)
+  pub at_size : (change : ℕ → ℕ) × ((m n : ℕ) → m ≤ n → change m ≤ change n) × ((sizes : List (Held ℕ)) → name_sizes_after sizes stmt ≡ changed_at (changed_name stmt.0) change sizes)
 
-pub change-at : (stmt : Typed) → IsChange stmt → IsChangedAt stmt
-change-at (t.Insert name rows) is = record { at_day = λ d. (_, λ names. refl); at_size = ((λ n. n + length rows), (λ m n e. omega (arith, e)), λ sizes. refl) }
-change-at (t.Delete name cond) is = record { at_day = λ d. (_, λ names. refl); at_size = ((λ n. n), (λ m n e. e), λ sizes. sym (changed_same name sizes)) }
-change-at (t.Update name sets cond) is = record { at_day = λ d. (_, λ names. refl); at_size = ((λ n. 2 * n), (λ m n e. omega (arith, e)), λ sizes. refl) }
-change-at (t.Create name columns) is = absurd is
-change-at (t.Drop name) is = absurd is
-change-at t.Tables is = absurd is
-change-at (t.Keep name query) is = absurd is
-change-at (t.PrintName name day) is = absurd is
-change-at (t.PrintQuery query day) is = absurd is
-change-at (t.Save name file) is = absurd is
-change-at (t.OpenFile name file) is = absurd is
-change-at (t.ImportFile name file) is = absurd is
-change-at (t.Explain query) is = absurd is
-change-at (t.Valid name day) is = absurd is
-change-at (t.Live name query) is = absurd is
+pub change-at : (stmt : OfNames) → IsChange stmt.0 → IsChangedAt stmt
+change-at (t.Insert name rows, of) is = record { at_day = λ d. (_, λ names. refl); at_size = ((λ n. n + length rows), (λ m n e. omega (arith, e)), λ sizes. refl) }
+change-at (t.Delete name cond, of) is = record { at_day = λ d. (_, λ names. refl); at_size = ((λ n. n), (λ m n e. e), λ sizes. sym (changed_same name sizes)) }
+change-at (t.Update name sets cond, of) is = record { at_day = λ d. (_, λ names. refl); at_size = ((λ n. 2 * n), (λ m n e. omega (arith, e)), λ sizes. refl) }
+change-at (t.Create name columns, of) is = absurd is
+change-at (t.Drop name, of) is = absurd is
+change-at (t.Tables, of) is = absurd is
+change-at (t.Keep name query, of) is = absurd is
+change-at (t.PrintName name day, of) is = absurd is
+change-at (t.PrintQuery query day, of) is = absurd is
+change-at (t.Save name file, of) is = absurd is
+change-at (t.OpenFile name file, of) is = absurd is
+change-at (t.ImportFile name file, of) is = absurd is
+change-at (t.Explain query, of) is = absurd is
+change-at (t.Valid name day, of) is = absurd is
+change-at (t.Live name query, of) is = absurd is
 
-module _ (stmt : Typed) (is : IsChangedAt stmt) where
+module _ (stmt : OfNames) (is : IsChangedAt stmt) where
   pub after-same : (d : ℤ) (a b : Names) (name : List ℕ) → rows_of a name ≡ rows_of b name → rows_of (names_after d a stmt) name ≡ rows_of (names_after d b stmt) name
   after-same d a b name same =
       let c = is.at_day d in
-      ap (λ hs. rows_of hs name) (c.1 a) ∙ changed-same (changed_name stmt) c.0 a b name same ∙ sym (ap (λ hs. rows_of hs name) (c.1 b))
+      ap (λ hs. rows_of hs name) (c.1 a) ∙ changed-same (changed_name stmt.0) c.0 a b name same ∙ sym (ap (λ hs. rows_of hs name) (c.1 b))
 
-  pub after-other : (d : ℤ) (names : Names) (name : List ℕ) → bytes_eq (changed_name stmt) name ≡ false → rows_of (names_after d names stmt) name ≡ rows_of names name
-  after-other d names name other = let c = is.at_day d in ap (λ hs. rows_of hs name) (c.1 names) ∙ changed-other (changed_name stmt) c.0 names name other
+  pub after-other : (d : ℤ) (names : Names) (name : List ℕ) → bytes_eq (changed_name stmt.0) name ≡ false → rows_of (names_after d names stmt) name ≡ rows_of names name
+  after-other d names name other = let c = is.at_day d in ap (λ hs. rows_of hs name) (c.1 names) ∙ changed-other (changed_name stmt.0) c.0 names name other
 
   pub after-alike : (d : ℤ) (live : List Live) (a b : Names) → ((f : Query → List Fixed) → refreshed f live a ≡ refreshed f live b) → (f : Query → List Fixed)
       → refreshed f live (names_after d a stmt) ≡ refreshed f live (names_after d b stmt)
   after-alike d live a b same f =
       let c = is.at_day d in
-      ap (refreshed f live) (c.1 a) ∙ changed-alike (changed_name stmt) c.0 live a b same f ∙ sym (ap (refreshed f live) (c.1 b))
+      ap (refreshed f live) (c.1 a) ∙ changed-alike (changed_name stmt.0) c.0 live a b same f ∙ sym (ap (refreshed f live) (c.1 b))
 
   pub sizes-less : (a b : List (Held ℕ)) (name : List ℕ) → known_of a name ≡ known_of b name → named_sizes a name ≤ named_sizes b name → named_sizes (name_sizes_after a stmt) name ≤ named_sizes (name_sizes_after b stmt) name
   sizes-less a b name known less =
       let c = is.at_size in
       subst (λ x. named_sizes x name ≤ named_sizes (name_sizes_after b stmt) name) (sym (c.2 a))
-      (subst (λ y. named_sizes (changed_at (changed_name stmt) c.0 a) name ≤ named_sizes y name) (sym (c.2 b)) (changed-less (changed_name stmt) c.0 c.1 a b name known less))
+      (subst (λ y. named_sizes (changed_at (changed_name stmt.0) c.0 a) name ≤ named_sizes y name) (sym (c.2 b)) (changed-less (changed_name stmt.0) c.0 c.1 a b name known less))
 
-  pub sizes-other : (sizes : List (Held ℕ)) (name : List ℕ) → bytes_eq (changed_name stmt) name ≡ false → named_sizes (name_sizes_after sizes stmt) name ≡ named_sizes sizes name
-  sizes-other sizes name other = let c = is.at_size in ap (λ hs. named_sizes hs name) (c.2 sizes) ∙ ap (or_else 0) (changed-other (changed_name stmt) c.0 sizes name other)
+  pub sizes-other : (sizes : List (Held ℕ)) (name : List ℕ) → bytes_eq (changed_name stmt.0) name ≡ false → named_sizes (name_sizes_after sizes stmt) name ≡ named_sizes sizes name
+  sizes-other sizes name other = let c = is.at_size in ap (λ hs. named_sizes hs name) (c.2 sizes) ∙ ap (or_else 0) (changed-other (changed_name stmt.0) c.0 sizes name other)

@@ -173,7 +173,7 @@ module _ (name : List ℕ) where
 
     -- once the queries of the views that last answer, the names of the database are those that the statement leaves
     pub drop_alike : (db : List (Held Relation)) (d : ℤ) (f : Query → List Fixed) → refreshed f now (names_at d (without name (settle_views name views db)))
-        ≡ refreshed f now (settled before now (names_after d (names_at d (with_views views db)) (t.Drop name)))
+        ≡ refreshed f now (settled before now (names_after d (names_at d (with_views views db)) (t.Drop name, tt)))
     drop_alike db d f =
         ap (λ hs. refreshed f now (names_at d (without name hs))) (settle-names views apart db) ∙ names_alike (λ rel. relation_at row_order row_at rel d) f db
 
@@ -228,7 +228,7 @@ module _ (name : List ℕ) where
 
     -- no name has more rows than the statement leaves it
     pub drop_sized : (db : List (Held Relation)) → IsDistinct bytes_eq (map (λ h. h.name) db) → AreLiveViews db views → (sizes : List (Held ℕ)) → AreWithin (sizes_at (with_views views db)) sizes
-        → AreWithin (sizes_at (without name (settle_views name views db))) (settled before now (name_sizes_after sizes (t.Drop name)))
+        → AreWithin (sizes_at (without name (settle_views name views db))) (settled before now (name_sizes_after sizes (t.Drop name, tt)))
     drop_sized db names live sizes within =
         subst (λ hs. AreWithin (sizes_at (without name hs)) (settled before now (without name sizes))) (sym (settle-names views apart db))
         (names_within db sizes (blank_names db names views live) within)

@@ -131,11 +131,11 @@ module _ (name : List ℕ) (db : List (Held Relation)) (views : Views) (apart : 
           some_is_none e = cc e
 
   -- and they are current
-  current_left : (sizes : List (Held ℕ)) → All (IsUpToDate (with_views views db) sizes) views → AllByRecursion (λ v. IsCurrent (with_views views db) sizes (t.Drop name) v.1) (lasting name views)
+  current_left : (sizes : List (Held ℕ)) → All (IsUpToDate (with_views views db) sizes) views → AllByRecursion (λ v. IsCurrent (with_views views db) sizes (t.Drop name, tt) v.1) (lasting name views)
   current_left sizes fresh =
-      all_lasting name (IsUpToDate (with_views views db) sizes) (λ v. IsCurrent (with_views views db) sizes (t.Drop name) v.1) one views (recursion_from_All (IsUpToDate (with_views views db) sizes) views fresh)
+      all_lasting name (IsUpToDate (with_views views db) sizes) (λ v. IsCurrent (with_views views db) sizes (t.Drop name, tt) v.1) one views (recursion_from_All (IsUpToDate (with_views views db) sizes) views fresh)
     where
-      one : (v : List ℕ × Seen) → view_ends name v ≡ false → IsUpToDate (with_views views db) sizes v → IsCurrent (with_views views db) sizes (t.Drop name) v.1
+      one : (v : List ℕ × Seen) → view_ends name v ≡ false → IsUpToDate (with_views views db) sizes v → IsCurrent (with_views views db) sizes (t.Drop name, tt) v.1
       one v lasts is =
           let parts = neither (bytes_eq name v.0) (uses v.1.query name) lasts in
           record {
@@ -150,10 +150,10 @@ module _ (name : List ℕ) (db : List (Held Relation)) (views : Views) (apart : 
 
   -- what is held without a name is what is held after its DROP
   pub dropped : ((d : ℤ) (f : Query → List Fixed)
-      → refreshed f (lives_of (lasting name views)) (names_at d left) ≡ refreshed f (lives_of (lasting name views)) (settled (lives_of views) (lives_of (lasting name views)) (names_after d (names_at d (with_views views db)) (t.Drop name))))
-      → ((sizes : List (Held ℕ)) → AreWithin (sizes_at (with_views views db)) sizes → AreWithin (sizes_at left) (settled (lives_of views) (lives_of (lasting name views)) (name_sizes_after sizes (t.Drop name))))
-      → IsDone (watched db views) (watched left (lasting name views)) (on_names (t.Drop name))
-  dropped alike sized files effects running = carried_out (watched db views) left files (lasting name views) (t.Drop name) effects (record {
+      → refreshed f (lives_of (lasting name views)) (names_at d left) ≡ refreshed f (lives_of (lasting name views)) (settled (lives_of views) (lives_of (lasting name views)) (names_after d (names_at d (with_views views db)) (t.Drop name, tt))))
+      → ((sizes : List (Held ℕ)) → AreWithin (sizes_at (with_views views db)) sizes → AreWithin (sizes_at left) (settled (lives_of views) (lives_of (lasting name views)) (name_sizes_after sizes (t.Drop name, tt))))
+      → IsDone (watched db views) (watched left (lasting name views)) (on_names (t.Drop name, tt))
+  dropped alike sized files effects running = carried_out (watched db views) left files (lasting name views) (t.Drop name, tt) effects (record {
     running = running;
     watched = watched_left;
     live = lives-lasting name views;

@@ -124,10 +124,10 @@ module _ (d : ℤ) where
 
   -- a DROP leaves the other names in their order
   pub dropped_order : (before : List Effect) (table : List ℕ)
-      → map (λ h. h.name) (world_of_day d (before ++ on_names (t.Drop table) ∷ [])).names ≡ map (λ h. h.name) (without table (world_of_day d before).names)
+      → map (λ h. h.name) (world_of_day d (before ++ on_names (t.Drop table, tt) ∷ [])).names ≡ map (λ h. h.name) (without table (world_of_day d before).names)
   dropped_order before table =
       let world = world_of_day d before in
-      ap (λ w. map (λ h. h.name) w.names) (next_world before (on_names (t.Drop table)))
+      ap (λ w. map (λ h. h.name) w.names) (next_world before (on_names (t.Drop table, tt)))
       ∙ names-left (ordinary_query d (named_rows (without table world.names))) world.live (live_after world.live (t.Drop table)) (without table world.names)
 
   module _ (words : List (List ℕ)) (source : List ℕ) (start : Folder) (run : Run) (before after : List Effect) (defined : IsDefinedRun words source start run) (parts : run.done ≡ before ++ after) where
@@ -145,8 +145,8 @@ module _ (d : ℤ) where
     -- a live result of that table is a kept result with these rows after the DROP
     abbrev IsKeptAfter : List ℕ → Live → Type 0
     IsKeptAfter table l =
-        uses l.query table ≡ true → found (world_of_day d (before ++ on_names (t.Drop table) ∷ [])).names l.name ≡ Some (live_result what.Kept d (world_of_day d before).names l)
+        uses l.query table ≡ true → found (world_of_day d (before ++ on_names (t.Drop table, tt) ∷ [])).names l.name ≡ Some (live_result what.Kept d (world_of_day d before).names l)
 
     pub dropped_rows : (table : List ℕ) → All (IsKeptAfter table) (live_of before)
     dropped_rows table =
-        each (IsKeptAfter table) (λ l r used. ap (λ w. found w.names l.name) (next_world before (on_names (t.Drop table))) ∙ kept_step d (world_of_day d before) right table l r used)
+        each (IsKeptAfter table) (λ l r used. ap (λ w. found w.names l.name) (next_world before (on_names (t.Drop table, tt))) ∙ kept_step d (world_of_day d before) right table l r used)

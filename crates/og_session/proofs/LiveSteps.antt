@@ -23,7 +23,7 @@ use Rattle.og_db.specs.Effects.{on_names, sizes_after}
 use Rattle.og_db.specs.Held.{Held, described, found, known_of, rows_of, made_of}
 use Rattle.og_db.specs.Live.{Live, answered, query_of, refreshed, settled, uses}
 use Rattle.og_db.specs.Runs.{AreWithin, sizes_at}
-use Rattle.og_db.specs.Statements.{named_rows, named_sizes, names_after, name_sizes_after, or_else}
+use Rattle.og_db.specs.Statements.{OfNames, named_rows, named_sizes, names_after, name_sizes_after, or_else}
 use Rattle.og_db.proofs.SizeLemmas.{within-named, within-push}
 use Rattle.og_db.proofs.WorldLemmas.{all_made_of-push}
 use Rattle.og_view.specs.Views.{IsAnswered, Seen}
@@ -115,18 +115,18 @@ module _ (db : List (Held Relation)) (views : Views) (all : AreLiveViews db view
     lives = map-append (λ v. record { name = v.0; query = v.1.query }) views ((name, view) ∷ [])
 
     -- what other tables have stays
-    rows_stay : (d : ℤ) (other : List ℕ) (columns : List Column) → known_of db other ≡ Some (what.Table, columns) → named_rows (names_at d names) other ≡ named_rows (names_after d (names_at d names) (t.Live name view.query)) other
+    rows_stay : (d : ℤ) (other : List ℕ) (columns : List Column) → known_of db other ≡ Some (what.Table, columns) → named_rows (names_at d names) other ≡ named_rows (names_after d (names_at d names) (t.Live name view.query, tt)) other
     rows_stay d other columns is = ap (or_else []) (ap (option_map (λ h. h.rows)) (sym (found-more (names_at d names) _ other (what.Table, columns) (known_on_day db views all d other ∙ is))))
 
     sizes_stay : (most : List (Held ℕ)) → AreWithin (sizes_at names) most → (other : List ℕ) (columns : List Column) → known_of db other ≡ Some (what.Table, columns)
-        → named_sizes most other ≡ named_sizes (name_sizes_after most (t.Live name view.query)) other
+        → named_sizes most other ≡ named_sizes (name_sizes_after most (t.Live name view.query, tt)) other
     sizes_stay most within other columns is = ap (or_else 0) (ap (option_map (λ h. h.rows)) (sym (found-more most _ other (what.Table, columns) (known_in_sizes db views all most within other ∙ is))))
 
     -- LIVE
-    pub live_done : IsDone (watched db views) (watched (db ++ added ∷ []) now) (on_names (t.Live name view.query))
+    pub live_done : IsDone (watched db views) (watched (db ++ added ∷ []) now) (on_names (t.Live name view.query, tt))
     live_done files effects running =
         let most = (sizes_after effects).names in
-        let stmt = t.Live name view.query in
+        let stmt : OfNames = (t.Live name view.query, tt) in
         let after = before ++ last ∷ [] in
         carried_out (watched db views) (db ++ added ∷ []) files now stmt effects
         (record {

@@ -13,12 +13,11 @@ use Rattle.og_value.specs.declared.schema.Column.{Column}
 use Rattle.og_query.specs.Fits.{IsFit, IsFitQuery, Known, tables_of}
 use Rattle.og_query.specs.Queries.{Fixed, ordinary_query}
 use Rattle.og_query.specs.declared.query.Query.{Query}
-use Rattle.og_query.specs.declared.typed.Typed.{Typed}
 use Rattle.og_query.specs.declared.typed.Typed.TheVariants as t
 use Rattle.og_db.specs.Effects.{Effect, World, imported, kept_as, on_names, opened, ordinary_statement, reopened, saved, with_name}
 use Rattle.og_db.specs.Held.{Held, changed_at, described, found, known_of, made_of, rows_of, without}
 use Rattle.og_db.specs.Live.{Live, ends_with, kept_with, live_after, query_of, uses}
-use Rattle.og_db.specs.Statements.{Names, named_rows, names_after, or_else}
+use Rattle.og_db.specs.Statements.{Names, OfNames, named_rows, names_after, or_else}
 use Rattle.og_db.proofs.WorldLemmas.{known_of-changed_at}
 use Rattle.og_view.proofs.BaseLemmas.{table_known}
 use Rattle.og_view.proofs.ViewLemmas.{used_has_columns}
@@ -273,7 +272,7 @@ module _ (d : ℤ) (names : Names) (live : List Live) (right : All (IsRight d na
 
 -- what a statement does, where it passed its checks over what is known
 abbrev pub IsChecked : Known → Effect → Type 0
-IsChecked known (on_names stmt) = IsFit known stmt
+IsChecked known (on_names stmt) = IsFit known stmt.0
 IsChecked known (saved name file) = ⊤
 IsChecked known (reopened name file) = ⊤
 IsChecked known (opened name columns rel) = ⊤
@@ -281,26 +280,26 @@ IsChecked known (imported name rows) = ⊤
 
 module _ (d : ℤ) (world : World) (right : AreRight d world) where
   -- the names and the live results that a statement leaves, before the rows of these follow
-  ready : (stmt : Typed) → IsFit (known_of world.names) stmt → All (IsReady world.names (names_after d world.names stmt) (live_after world.live stmt)) (live_after world.live stmt)
-  ready (t.Create name columns) fit = ready_kept d world.names world.live right _ (keeps-more d world.names world.live right _)
-  ready (t.Insert name rows) fit = ready_kept d world.names world.live right _ (keeps-changed d world.names world.live right name _)
-  ready (t.Delete name cond) fit = ready_kept d world.names world.live right _ (keeps-changed d world.names world.live right name _)
-  ready (t.Update name sets cond) fit = ready_kept d world.names world.live right _ (keeps-changed d world.names world.live right name _)
-  ready (t.Drop name) fit = ready_lasting d world.names world.live right name
-  ready (t.Keep name query) fit = ready_kept d world.names world.live right _ (keeps-more d world.names world.live right _)
-  ready t.Tables fit = ready_kept d world.names world.live right world.names (keeps-all d world.names world.live right)
-  ready (t.PrintName name day) fit = ready_kept d world.names world.live right world.names (keeps-all d world.names world.live right)
-  ready (t.PrintQuery query day) fit = ready_kept d world.names world.live right world.names (keeps-all d world.names world.live right)
-  ready (t.Save name file) fit = ready_kept d world.names world.live right world.names (keeps-all d world.names world.live right)
-  ready (t.OpenFile name file) fit = ready_kept d world.names world.live right world.names (keeps-all d world.names world.live right)
-  ready (t.ImportFile name file) fit = ready_kept d world.names world.live right world.names (keeps-all d world.names world.live right)
-  ready (t.Explain query) fit = ready_kept d world.names world.live right world.names (keeps-all d world.names world.live right)
-  ready (t.Valid name day) fit = ready_kept d world.names world.live right world.names (keeps-all d world.names world.live right)
-  ready (t.Live name query) fit = ready_live d world.names world.live right name query fit.0 fit.1
+  ready : (stmt : OfNames) → IsFit (known_of world.names) stmt.0 → All (IsReady world.names (names_after d world.names stmt) (live_after world.live stmt.0)) (live_after world.live stmt.0)
+  ready (t.Create name columns, of) fit = ready_kept d world.names world.live right _ (keeps-more d world.names world.live right _)
+  ready (t.Insert name rows, of) fit = ready_kept d world.names world.live right _ (keeps-changed d world.names world.live right name _)
+  ready (t.Delete name cond, of) fit = ready_kept d world.names world.live right _ (keeps-changed d world.names world.live right name _)
+  ready (t.Update name sets cond, of) fit = ready_kept d world.names world.live right _ (keeps-changed d world.names world.live right name _)
+  ready (t.Drop name, of) fit = ready_lasting d world.names world.live right name
+  ready (t.Keep name query, of) fit = ready_kept d world.names world.live right _ (keeps-more d world.names world.live right _)
+  ready (t.Tables, of) fit = ready_kept d world.names world.live right world.names (keeps-all d world.names world.live right)
+  ready (t.PrintName name day, of) fit = ready_kept d world.names world.live right world.names (keeps-all d world.names world.live right)
+  ready (t.PrintQuery query day, of) fit = ready_kept d world.names world.live right world.names (keeps-all d world.names world.live right)
+  ready (t.Save name file, of) fit = absurd of
+  ready (t.OpenFile name file, of) fit = absurd of
+  ready (t.ImportFile name file, of) fit = absurd of
+  ready (t.Explain query, of) fit = ready_kept d world.names world.live right world.names (keeps-all d world.names world.live right)
+  ready (t.Valid name day, of) fit = ready_kept d world.names world.live right world.names (keeps-all d world.names world.live right)
+  ready (t.Live name query, of) fit = ready_live d world.names world.live right name query fit.0 fit.1
 
   -- live results that are right stay so
   pub right_step : (effect : Effect) → IsChecked (known_of world.names) effect → AreRight d (ordinary_statement d world effect)
-  right_step (on_names stmt) checked = right_again d world.names world.live right _ (live_after world.live stmt) (ready stmt checked)
+  right_step (on_names stmt) checked = right_again d world.names world.live right _ (live_after world.live stmt.0) (ready stmt checked)
   right_step (saved name file) checked = right
   right_step (reopened name file) checked = by (found world.files file)
     where
@@ -312,7 +311,7 @@ module _ (d : ℤ) (world : World) (right : AreRight d world) where
       right_again d world.names world.live right _ world.live (ready_kept d world.names world.live right _ (keeps-changed d world.names world.live right name _))
 
   -- a live result whose query names a table that is dropped is a kept result, with the rows that it had
-  pub kept_step : (gone : List ℕ) (l : Live) → IsRight d world.names world.live l → uses l.query gone ≡ true → found (ordinary_statement d world (on_names (t.Drop gone))).names l.name
+  pub kept_step : (gone : List ℕ) (l : Live) → IsRight d world.names world.live l → uses l.query gone ≡ true → found (ordinary_statement d world (on_names (t.Drop gone, tt))).names l.name
       ≡ Some (record { name = l.name; what = what.Kept; columns = l.query.first.schema; rows = ordinary_query d (named_rows world.names) l.query })
   kept_step gone l r used =
       found-ended (ordinary_query d (named_rows (without gone world.names))) world.live (live_after world.live (t.Drop gone)) (without gone world.names) l.name l.query r.own

@@ -22,7 +22,7 @@ use Rattle.og_db.specs.Effects.{on_names, size_after, sizes_after}
 use Rattle.og_db.specs.Held.{Held, described, known_of, made_of}
 use Rattle.og_db.specs.Live.{Live, answered, live_after, query_of, refreshed, settled}
 use Rattle.og_db.specs.Runs.{AreWithin, IsWithin, sizes_at}
-use Rattle.og_db.specs.Statements.{Names, named_rows, is_of_names, named_sizes, names_after, name_sizes_after, or_else}
+use Rattle.og_db.specs.Statements.{IsOfNames, Names, OfNames, named_rows, named_sizes, names_after, name_sizes_after, or_else}
 use Rattle.og_db.proofs.SizeLemmas.{query_more, within-known, within-named, within-push, within-trans}
 use Rattle.og_db.proofs.WorldLemmas.{all_made_of-push, known_of-made_of}
 use Rattle.og_view.specs.Views.{Seen}
@@ -64,25 +64,25 @@ live_push db h views all = All-from_recursion (IsLiveView (db ++ h ∷ [])) view
         )
 
 -- a statement that only writes leaves the live results, the names and the sizes
-only_written : (stmt : Typed) → IsOnlyWritten stmt → ((live : List Live) → live_after live stmt ≡ live) × ((d : ℤ) (names : Names) → names_after d names stmt ≡ names) × ((sizes : List (Held ℕ)) → name_sizes_after sizes stmt ≡ sizes)
-only_written t.Tables is = ((λ live. refl), (λ d names. refl), λ sizes. refl)
-only_written (t.PrintName name day) is = ((λ live. refl), (λ d names. refl), λ sizes. refl)
-only_written (t.PrintQuery query day) is = ((λ live. refl), (λ d names. refl), λ sizes. refl)
-only_written (t.Explain query) is = ((λ live. refl), (λ d names. refl), λ sizes. refl)
-only_written (t.Valid name day) is = ((λ live. refl), (λ d names. refl), λ sizes. refl)
-only_written (t.Create name columns) is = absurd is
-only_written (t.Insert name rows) is = absurd is
-only_written (t.Delete name cond) is = absurd is
-only_written (t.Update name sets cond) is = absurd is
-only_written (t.Drop name) is = absurd is
-only_written (t.Keep name query) is = absurd is
-only_written (t.Save name file) is = absurd is
-only_written (t.OpenFile name file) is = absurd is
-only_written (t.ImportFile name file) is = absurd is
-only_written (t.Live name query) is = absurd is
+only_written : (stmt : OfNames) → IsOnlyWritten stmt.0 → ((live : List Live) → live_after live stmt.0 ≡ live) × ((d : ℤ) (names : Names) → names_after d names stmt ≡ names) × ((sizes : List (Held ℕ)) → name_sizes_after sizes stmt ≡ sizes)
+only_written (t.Tables, of) is = ((λ live. refl), (λ d names. refl), λ sizes. refl)
+only_written (t.PrintName name day, of) is = ((λ live. refl), (λ d names. refl), λ sizes. refl)
+only_written (t.PrintQuery query day, of) is = ((λ live. refl), (λ d names. refl), λ sizes. refl)
+only_written (t.Explain query, of) is = ((λ live. refl), (λ d names. refl), λ sizes. refl)
+only_written (t.Valid name day, of) is = ((λ live. refl), (λ d names. refl), λ sizes. refl)
+only_written (t.Create name columns, of) is = absurd is
+only_written (t.Insert name rows, of) is = absurd is
+only_written (t.Delete name cond, of) is = absurd is
+only_written (t.Update name sets cond, of) is = absurd is
+only_written (t.Drop name, of) is = absurd is
+only_written (t.Keep name query, of) is = absurd is
+only_written (t.Save name file, of) is = absurd is
+only_written (t.OpenFile name file, of) is = absurd is
+only_written (t.ImportFile name file, of) is = absurd is
+only_written (t.Live name query, of) is = absurd is
 
 -- a statement of names that changes no table and is none of these four only writes
-pub is_written : (stmt : Typed) → is_of_names stmt ≡ true → IsNoChange stmt → ((name : List ℕ) (columns : List Column) → ¬ (stmt ≡ t.Create name columns)) → ((name : List ℕ) → ¬ (stmt ≡ t.Drop name))
+pub is_written : (stmt : Typed) → IsOfNames stmt → IsNoChange stmt → ((name : List ℕ) (columns : List Column) → ¬ (stmt ≡ t.Create name columns)) → ((name : List ℕ) → ¬ (stmt ≡ t.Drop name))
     → ((name : List ℕ) (query : Query) → ¬ (stmt ≡ t.Keep name query)) → ((name : List ℕ) (query : Query) → ¬ (stmt ≡ t.Live name query)) → IsOnlyWritten stmt
 is_written t.Tables names other create drops keep live = tt
 is_written (t.PrintName name day) names other create drops keep live = tt
@@ -95,9 +95,9 @@ is_written (t.Delete name cond) names other create drops keep live = absurd (oth
 is_written (t.Update name sets cond) names other create drops keep live = absurd (other tt)
 is_written (t.Drop name) names other create drops keep live = absurd (drops name refl)
 is_written (t.Keep name query) names other create drops keep live = absurd (keep name query refl)
-is_written (t.Save name file) names other create drops keep live = absurd (true≢false (sym names))
-is_written (t.OpenFile name file) names other create drops keep live = absurd (true≢false (sym names))
-is_written (t.ImportFile name file) names other create drops keep live = absurd (true≢false (sym names))
+is_written (t.Save name file) names other create drops keep live = absurd names
+is_written (t.OpenFile name file) names other create drops keep live = absurd names
+is_written (t.ImportFile name file) names other create drops keep live = absurd names
 is_written (t.Live name query) names other create drops keep live = absurd (live name query refl)
 
 module _ (db : List (Held Relation)) (views : Views) (all : AreLiveViews db views) where
@@ -117,7 +117,7 @@ module _ (db : List (Held Relation)) (views : Views) (all : AreLiveViews db view
   known_in_sizes sizes v name = sym (within-known name (sizes_at names) sizes v) ∙ known_of-made_of length names name ∙ known_of-shown views db name
 
   -- views that are up to date are current after a statement that leaves the rows of tables
-  pub current_kept : (stmt : Typed) (sizes : List (Held ℕ)) → All (IsUpToDate names sizes) views
+  pub current_kept : (stmt : OfNames) (sizes : List (Held ℕ)) → All (IsUpToDate names sizes) views
       → ((name : List ℕ) (columns : List Column) → known_of db name ≡ Some (what.Table, columns) → (d : ℤ) → IsRefDay d → named_rows (names_at d names) name ≡ named_rows (names_after d (names_at d names) stmt) name)
       → ((name : List ℕ) (columns : List Column) → known_of db name ≡ Some (what.Table, columns) → named_sizes sizes name ≡ named_sizes (name_sizes_after sizes stmt) name)
       → AllByRecursion (λ v. IsCurrent names sizes stmt v.1) views
@@ -171,9 +171,9 @@ module _ (db : List (Held Relation)) (views : Views) (all : AreLiveViews db view
         by vs live.1 fresh.1,
       )
 
-  module _ (apart : IsDistinct bytes_eq (map (λ h. h.name) db)) (stmt : Typed) where
+  module _ (apart : IsDistinct bytes_eq (map (λ h. h.name) db)) (stmt : OfNames) where
     -- a statement that leaves all as it is
-    pub stay_done : live_after (lives_of views) stmt ≡ lives_of views → ((d : ℤ) (names : Names) → names_after d names stmt ≡ names) → ((sizes : List (Held ℕ)) → name_sizes_after sizes stmt ≡ sizes)
+    pub stay_done : live_after (lives_of views) stmt.0 ≡ lives_of views → ((d : ℤ) (names : Names) → names_after d names stmt ≡ names) → ((sizes : List (Held ℕ)) → name_sizes_after sizes stmt ≡ sizes)
         → IsDone (watched db views) (watched db views) (on_names stmt)
     stay_done live names_law sizes_law files effects running =
         carried_out (watched db views) db files views stmt effects
@@ -192,7 +192,7 @@ module _ (db : List (Held Relation)) (views : Views) (all : AreLiveViews db view
         })
 
     -- a statement that adds a name
-    pub push_done : (h : Held Relation) → known_of db h.name ≡ None → live_after (lives_of views) stmt ≡ lives_of views
+    pub push_done : (h : Held Relation) → known_of db h.name ≡ None → live_after (lives_of views) stmt.0 ≡ lives_of views
         → ((d : ℤ) → IsRefDay d → names_after d (names_at d names) stmt ≡ names_at d names ++ made_of (λ rel. relation_at row_order row_at rel d) h ∷ [])
         → ((sizes : List (Held ℕ)) → AreWithin (sizes_at names) sizes → (most : Held ℕ) × (name_sizes_after sizes stmt ≡ sizes ++ most ∷ []) × IsWithin (made_of length h) most)
         → IsDone (watched db views) (watched (db ++ h ∷ []) views) (on_names stmt)
@@ -225,22 +225,22 @@ module _ (db : List (Held Relation)) (views : Views) (all : AreLiveViews db view
         })
 
     -- a statement that only writes
-    pub written_done : IsOnlyWritten stmt → IsDone (watched db views) (watched db views) (on_names stmt)
+    pub written_done : IsOnlyWritten stmt.0 → IsDone (watched db views) (watched db views) (on_names stmt)
     written_done is = let same = only_written stmt is in stay_done (same.0 (lives_of views)) same.1 same.2
 
   module _ (apart : IsDistinct bytes_eq (map (λ h. h.name) db)) (name : List ℕ) (columns : List Column) where
     -- CREATE
-    pub create_done : known_of db name ≡ None → IsDone (watched db views) (watched (db ++ record { name = name; what = what.Table; columns = columns; rows = [] } ∷ []) views) (on_names (t.Create name columns))
+    pub create_done : known_of db name ≡ None → IsDone (watched db views) (watched (db ++ record { name = name; what = what.Table; columns = columns; rows = [] } ∷ []) views) (on_names (t.Create name columns, tt))
     create_done new =
-        push_done apart (t.Create name columns) (record { name = name; what = what.Table; columns = columns; rows = [] }) new refl (λ d day. refl)
+        push_done apart (t.Create name columns, tt) (record { name = name; what = what.Table; columns = columns; rows = [] }) new refl (λ d day. refl)
         (λ sizes v. (record { name = name; what = what.Table; columns = columns; rows = 0 }, refl, record { name = refl; what = refl; rows = omega arith }))
 
     -- KEEP
     pub keep_done : (rel : Relation) (query : Query) → known_of db name ≡ None → columns ≡ query.first.schema
         → ((d : ℤ) → IsRefDay d → relation_at row_order row_at rel d ≡ ordinary_query d (named_rows (names_at d names)) query) → length rel ≤ query_size (named_sizes (sizes_at names)) query
-        → IsDone (watched db views) (watched (db ++ record { name = name; what = what.Kept; columns = columns; rows = rel } ∷ []) views) (on_names (t.Keep name query))
+        → IsDone (watched db views) (watched (db ++ record { name = name; what = what.Kept; columns = columns; rows = rel } ∷ []) views) (on_names (t.Keep name query, tt))
     keep_done rel query new same rows size =
-        push_done apart (t.Keep name query) (record { name = name; what = what.Kept; columns = columns; rows = rel }) new refl
+        push_done apart (t.Keep name query, tt) (record { name = name; what = what.Kept; columns = columns; rows = rel }) new refl
         (λ d day. λ i. names_at d names ++ record { name = name; what = what.Kept; columns = sym same i; rows = sym (rows d day) i } ∷ [])
         (λ sizes v. (
           record { name = name; what = what.Kept; columns = query.first.schema; rows = query_size (named_sizes sizes) query },

@@ -7,13 +7,12 @@ use Rattle.og_value.specs.declared.kind.What.TheVariants as what
 use Rattle.og_value.specs.declared.schema.Column.{Column}
 use Rattle.og_query.specs.Sizes.{query_size}
 use Rattle.og_query.specs.declared.query.Query.{Query}
-use Rattle.og_query.specs.declared.typed.Typed.{Typed}
 use Rattle.og_query.specs.declared.typed.Typed.TheVariants as t
 use Rattle.og_db.specs.Effects.{Effect, Store, imported, kept_as, on_names, opened, reopened, saved, size_after, with_name}
 use Rattle.og_db.specs.Held.{Held, described, found, known_of, without}
 use Rattle.og_db.specs.Live.{Live, kept_with, live_after, query_of}
 use Rattle.og_db.specs.Runs.{known_after, live_of}
-use Rattle.og_db.specs.Statements.{name_sizes_after, named_sizes}
+use Rattle.og_db.specs.Statements.{OfNames, name_sizes_after, named_sizes}
 use Rattle.og_db.proofs.WorldLemmas.{known_of-changed_at}
 use Rattle.og_session.proofs.FollowedNames.{first_of, found-ended, found-plain, found-push, found-without, left, query_of-push}
 use Rattle.og_session.proofs.LiveWorlds.{is_live}
@@ -73,26 +72,26 @@ last_has live l name same = ap is_some (query_of-push live l name ∙ ap (λ b. 
 
 module _ (sizes : Store ℕ) (all : AreAll sizes.names sizes.live) where
   -- a statement leaves no other name as live
-  after_all : (stmt : Typed) (name : List ℕ) → query_of sizes.live name ≡ None → query_of (live_after sizes.live stmt) name ≡ None → is_live (known_of (name_sizes_after sizes.names stmt) name) ≡ false
-  after_all (t.Create table columns) name was is = more_not_live sizes.names _ name (all name was) (λ same. refl)
-  after_all (t.Insert table rows) name was is = ap is_live (known_of-changed_at table _ sizes.names name) ∙ all name was
-  after_all (t.Delete table cond) name was is = all name was
-  after_all (t.Update table sets cond) name was is = ap is_live (known_of-changed_at table _ sizes.names name) ∙ all name was
-  after_all (t.Drop table) name was is = without_not_live table sizes.names name (all name was)
-  after_all t.Tables name was is = all name was
-  after_all (t.Keep other query) name was is = more_not_live sizes.names _ name (all name was) (λ same. refl)
-  after_all (t.PrintName other day) name was is = all name was
-  after_all (t.PrintQuery query day) name was is = all name was
-  after_all (t.Save other file) name was is = all name was
-  after_all (t.OpenFile other file) name was is = all name was
-  after_all (t.ImportFile other file) name was is = all name was
-  after_all (t.Explain query) name was is = all name was
-  after_all (t.Valid other day) name was is = all name was
-  after_all (t.Live other query) name was is =
+  after_all : (stmt : OfNames) (name : List ℕ) → query_of sizes.live name ≡ None → query_of (live_after sizes.live stmt.0) name ≡ None → is_live (known_of (name_sizes_after sizes.names stmt) name) ≡ false
+  after_all (t.Create table columns, of) name was is = more_not_live sizes.names _ name (all name was) (λ same. refl)
+  after_all (t.Insert table rows, of) name was is = ap is_live (known_of-changed_at table _ sizes.names name) ∙ all name was
+  after_all (t.Delete table cond, of) name was is = all name was
+  after_all (t.Update table sets cond, of) name was is = ap is_live (known_of-changed_at table _ sizes.names name) ∙ all name was
+  after_all (t.Drop table, of) name was is = without_not_live table sizes.names name (all name was)
+  after_all (t.Tables, of) name was is = all name was
+  after_all (t.Keep other query, of) name was is = more_not_live sizes.names _ name (all name was) (λ same. refl)
+  after_all (t.PrintName other day, of) name was is = all name was
+  after_all (t.PrintQuery query day, of) name was is = all name was
+  after_all (t.Save other file, of) name was is = absurd of
+  after_all (t.OpenFile other file, of) name was is = absurd of
+  after_all (t.ImportFile other file, of) name was is = absurd of
+  after_all (t.Explain query, of) name was is = all name was
+  after_all (t.Valid other day, of) name was is = all name was
+  after_all (t.Live other query, of) name was is =
       more_not_live sizes.names _ name (all name was) (λ same. absurd (true≢false (sym (last_has sizes.live (record { name = other; query = query }) name same) ∙ ap is_some is)))
 
-  statement_all : (stmt : Typed) → AreAll (size_after sizes (on_names stmt)).names (live_after sizes.live stmt)
-  statement_all stmt = left_all (query_size (named_sizes (name_sizes_after sizes.names stmt))) sizes.live (live_after sizes.live stmt) (name_sizes_after sizes.names stmt) (after_all stmt)
+  statement_all : (stmt : OfNames) → AreAll (size_after sizes (on_names stmt)).names (live_after sizes.live stmt.0)
+  statement_all stmt = left_all (query_size (named_sizes (name_sizes_after sizes.names stmt))) sizes.live (live_after sizes.live stmt.0) (name_sizes_after sizes.names stmt) (after_all stmt)
 
   -- nor does any effect
   all_step : (effect : Effect) → AreAll (size_after sizes effect).names (size_after sizes effect).live
@@ -104,7 +103,7 @@ module _ (sizes : Store ℕ) (all : AreAll sizes.names sizes.live) where
       by None = all
       by (Some h) = λ other is. more_not_live sizes.names (kept_as name h) other (all other is) (λ same. refl)
   all_step (opened name columns rel) = λ other is. more_not_live sizes.names _ other (all other is) (λ same. refl)
-  all_step (imported name rows) = statement_all (t.Insert name rows)
+  all_step (imported name rows) = statement_all (t.Insert name rows, tt)
 
 all_steps : (effects : List Effect) (sizes : Store ℕ) → AreAll sizes.names sizes.live → AreAll (fold size_after sizes effects).names (fold size_after sizes effects).live
 all_steps [] sizes all = all

@@ -16,7 +16,7 @@ use Rattle.og_db.specs.Effects.{Effect, on_names, world_of_day}
 use Rattle.og_exec.specs.Tables.{rows_at}
 use Rattle.og_db.specs.Held.{Held, all_made_of, described, found, made_of, rows_of}
 use Rattle.og_db.specs.Runs.{AreWithin, IsWorldOf, sizes_at}
-use Rattle.og_db.specs.Statements.{named_rows}
+use Rattle.og_db.specs.Statements.{IsOfNames, named_rows}
 use Rattle.og_output.specs.Records.{layout, names_text, records, what_word}
 use Rattle.og_session.proofs.AnswerLemmas.{rows_at-world}
 use Rattle.og_session.specs.Output.{held_layout, piece_of}
@@ -28,11 +28,11 @@ name_record h = h.name ∷ what_word h.what ∷ []
 module _ (found_at : (d : ℤ) (db : List (Held Relation)) (name : List ℕ) → found (names_at d db) name ≡ option_map (made_of (λ rel. relation_at row_order row_at rel d)) (found db name))
     (db files : List (Held Relation)) (before : List Effect) (world : IsWorldOf db files before) where
   -- a PRINT of a name writes what the name holds on the day
-  pub piece-name : (name : List ℕ) (day : ℤ) → IsRefDay day → held_layout (option_map (made_of (λ rel. relation_at row_order row_at rel day)) (found db name)) ≡ piece_of before (on_names (t.PrintName name day))
+  pub piece-name : (name : List ℕ) (day : ℤ) → IsRefDay day → held_layout (option_map (made_of (λ rel. relation_at row_order row_at rel day)) (found db name)) ≡ piece_of before (on_names (t.PrintName name day, tt))
   piece-name name day is = ap held_layout (sym (found_at day db name)) ∙ ap (λ w. held_layout (found w name)) (world.names day is)
 
   -- a PRINT of a query writes the ordinary answer on the day
-  pub piece-query : (query : Query) (day : ℤ) (rows : List Fixed) → IsRefDay day → rows ≡ ordinary_query day (rows_at (rows_of db) day) query → layout query.first.schema rows ≡ piece_of before (on_names (t.PrintQuery query day))
+  pub piece-query : (query : Query) (day : ℤ) (rows : List Fixed) → IsRefDay day → rows ≡ ordinary_query day (rows_at (rows_of db) day) query → layout query.first.schema rows ≡ piece_of before (on_names (t.PrintQuery query day, tt))
   piece-query query day rows is answer = ap (layout query.first.schema) (answer ∙ ap (λ rows. ordinary_query day rows query) (rows_at-world found_at day db) ∙ ap (λ w. ordinary_query day (named_rows w) query) (world.names day is))
 
 module _ (f : Relation → List Fixed) where
@@ -65,24 +65,24 @@ names-made f [] = refl
 names-made f (h ∷ hs) = ap (λ rs. name_record h ∷ rs) (names-made f hs)
 
 -- TABLES writes the names of the database
-pub piece-tables : (db files : List (Held Relation)) (before : List Effect) → IsWorldOf db files before → names_text db ≡ piece_of before (on_names t.Tables)
+pub piece-tables : (db files : List (Held Relation)) (before : List Effect) → IsWorldOf db files before → names_text db ≡ piece_of before (on_names (t.Tables, tt))
 piece-tables db files before world = ap (λ rs. records ((codes "name" ∷ codes "what" ∷ []) ∷ rs)) (names-made length db ∙ names-within (sizes_at db) _ world.sizes)
 
 -- any statement but these five writes nothing
-pub others_write_nothing : (before : List Effect) (stmt : Typed) → ((name : List ℕ) (day : ℤ) → ¬ (stmt ≡ t.PrintName name day)) → ((query : Query) (day : ℤ) → ¬ (stmt ≡ t.PrintQuery query day))
-    → ¬ (stmt ≡ t.Tables) → ((query : Query) → ¬ (stmt ≡ t.Explain query)) → ((name : List ℕ) (day : ℤ) → ¬ (stmt ≡ t.Valid name day)) → piece_of before (on_names stmt) ≡ []
-others_write_nothing before (t.PrintName name day) name_no query_no tables_no explain_no valid_no = absurd (name_no name day refl)
-others_write_nothing before (t.PrintQuery query day) name_no query_no tables_no explain_no valid_no = absurd (query_no query day refl)
-others_write_nothing before t.Tables name_no query_no tables_no explain_no valid_no = absurd (tables_no refl)
-others_write_nothing before (t.Explain query) name_no query_no tables_no explain_no valid_no = absurd (explain_no query refl)
-others_write_nothing before (t.Create name columns) name_no query_no tables_no explain_no valid_no = refl
-others_write_nothing before (t.Insert name rows) name_no query_no tables_no explain_no valid_no = refl
-others_write_nothing before (t.Delete name cond) name_no query_no tables_no explain_no valid_no = refl
-others_write_nothing before (t.Update name sets cond) name_no query_no tables_no explain_no valid_no = refl
-others_write_nothing before (t.Drop name) name_no query_no tables_no explain_no valid_no = refl
-others_write_nothing before (t.Keep name query) name_no query_no tables_no explain_no valid_no = refl
-others_write_nothing before (t.Save name file) name_no query_no tables_no explain_no valid_no = refl
-others_write_nothing before (t.OpenFile name file) name_no query_no tables_no explain_no valid_no = refl
-others_write_nothing before (t.ImportFile name file) name_no query_no tables_no explain_no valid_no = refl
-others_write_nothing before (t.Valid name day) name_no query_no tables_no explain_no valid_no = absurd (valid_no name day refl)
-others_write_nothing before (t.Live name query) name_no query_no tables_no explain_no valid_no = refl
+pub others_write_nothing : (before : List Effect) (stmt : Typed) (of : IsOfNames stmt) → ((name : List ℕ) (day : ℤ) → ¬ (stmt ≡ t.PrintName name day)) → ((query : Query) (day : ℤ) → ¬ (stmt ≡ t.PrintQuery query day))
+    → ¬ (stmt ≡ t.Tables) → ((query : Query) → ¬ (stmt ≡ t.Explain query)) → ((name : List ℕ) (day : ℤ) → ¬ (stmt ≡ t.Valid name day)) → piece_of before (on_names (stmt, of)) ≡ []
+others_write_nothing before (t.PrintName name day) of name_no query_no tables_no explain_no valid_no = absurd (name_no name day refl)
+others_write_nothing before (t.PrintQuery query day) of name_no query_no tables_no explain_no valid_no = absurd (query_no query day refl)
+others_write_nothing before t.Tables of name_no query_no tables_no explain_no valid_no = absurd (tables_no refl)
+others_write_nothing before (t.Explain query) of name_no query_no tables_no explain_no valid_no = absurd (explain_no query refl)
+others_write_nothing before (t.Create name columns) of name_no query_no tables_no explain_no valid_no = refl
+others_write_nothing before (t.Insert name rows) of name_no query_no tables_no explain_no valid_no = refl
+others_write_nothing before (t.Delete name cond) of name_no query_no tables_no explain_no valid_no = refl
+others_write_nothing before (t.Update name sets cond) of name_no query_no tables_no explain_no valid_no = refl
+others_write_nothing before (t.Drop name) of name_no query_no tables_no explain_no valid_no = refl
+others_write_nothing before (t.Keep name query) of name_no query_no tables_no explain_no valid_no = refl
+others_write_nothing before (t.Save name file) of name_no query_no tables_no explain_no valid_no = absurd of
+others_write_nothing before (t.OpenFile name file) of name_no query_no tables_no explain_no valid_no = absurd of
+others_write_nothing before (t.ImportFile name file) of name_no query_no tables_no explain_no valid_no = absurd of
+others_write_nothing before (t.Valid name day) of name_no query_no tables_no explain_no valid_no = absurd (valid_no name day refl)
+others_write_nothing before (t.Live name query) of name_no query_no tables_no explain_no valid_no = refl

@@ -19,14 +19,13 @@ use Rattle.og_query.specs.Fits.{columns_of, tables_of}
 use Rattle.og_query.specs.Queries.{Fixed, ordinary_query}
 use Rattle.og_query.specs.Sizes.{query_size}
 use Rattle.og_query.specs.declared.query.Query.{Query}
-use Rattle.og_query.specs.declared.typed.Typed.{Typed}
 use Rattle.og_exec.specs.Tables.{rows_at, rows_or_none, size_or_none, sizes_of}
 use Rattle.og_db.specs.Database.{HaveKinds, Relation, names_at}
 use Rattle.og_db.specs.Effects.{Effect, on_names, ordinary_statement, size_after, sizes_after, statement_names, statement_sizes, world_of_day}
 use Rattle.og_db.specs.Held.{Held, found, known_of, rows_of}
 use Rattle.og_db.specs.Live.{Live, live_after, query_of, has_ended, kept_with, settled, refreshed, uses}
 use Rattle.og_db.specs.Runs.{AreWithin, live_of, sizes_at}
-use Rattle.og_db.specs.Statements.{Names, named_rows, named_sizes, names_after, name_sizes_after, or_else}
+use Rattle.og_db.specs.Statements.{Names, OfNames, named_rows, named_sizes, names_after, name_sizes_after, or_else}
 use Rattle.og_db.proofs.LiveLemmas.{live_on_day}
 use Rattle.og_db.proofs.LiveNames.{rows_of-refreshed}
 use Rattle.og_db.proofs.WorldLemmas.{named-made_of}
@@ -156,16 +155,16 @@ names_held db views all held name columns is = at (lookup (bytes_eq name) views)
 -- ---- one statement more
 
 -- after a statement a view is current: what its query uses has among its bases the rows that the statement leaves, and no more than its size then
-pub record IsCurrent (old : List (Held Relation)) (sizes : List (Held ℕ)) (stmt : Typed) (view : Seen) : Type 0 where
+pub record IsCurrent (old : List (Held Relation)) (sizes : List (Held ℕ)) (stmt : OfNames) (view : Seen) : Type 0 where
   pub rows : (name : List ℕ) → uses view.query name ≡ true → (d : ℤ) → IsRefDay d → named_rows (names_at d view.bases) name ≡ named_rows (names_after d (names_at d old) stmt) name
   pub most : (name : List ℕ) → uses view.query name ≡ true → named_sizes (sizes_at view.bases) name ≤ named_sizes (name_sizes_after sizes stmt) name
 
-module _ (old : Watched) (db files : List (Held Relation)) (views : Views) (stmt : Typed) (effects : List Effect) where
+module _ (old : Watched) (db files : List (Held Relation)) (views : Views) (stmt : OfNames) (effects : List Effect) where
   -- what a statement has to do to the database and the views
   pub record IsCarriedOut : Type 0 where
     pub running : IsRunning old files effects
     pub watched : AreLiveViews db views
-    pub live : lives_of views ≡ live_after (lives_of old.views) stmt
+    pub live : lives_of views ≡ live_after (lives_of old.views) stmt.0
     pub alike : (d : ℤ) → IsRefDay d → (f : Query → List Fixed)
         → refreshed f (lives_of views) (names_at d db) ≡ refreshed f (lives_of views) (settled (lives_of old.views) (lives_of views) (names_after d (names_at d old.names) stmt))
     pub sized : AreWithin (sizes_at db) (settled (lives_of old.views) (lives_of views) (name_sizes_after (sizes_after effects).names stmt))
@@ -230,8 +229,8 @@ module _ (old : Watched) (db files : List (Held Relation)) (views : Views) (stmt
     steps : statement_sizes (live_of effects) sizes stmt ≡ refreshed (query_size (named_sizes most)) now (settled before now most)
     steps = λ i. refreshed (query_size (named_sizes most)) (same i) (settled (done.running.live i) (same i) most)
       where
-        same : live_after (live_of effects) stmt ≡ now
-        same = ap (λ l. live_after l stmt) done.running.live ∙ sym done.live
+        same : live_after (live_of effects) stmt.0 ≡ now
+        same = ap (λ l. live_after l stmt.0) done.running.live ∙ sym done.live
 
     -- each view is up to date
     fresh : (vs : Views) → AllByRecursion (IsLiveView db) vs → AllByRecursion (λ v. IsCurrent old.names sizes stmt v.1) vs
@@ -268,6 +267,6 @@ module _ (old : Watched) (db files : List (Held Relation)) (views : Views) (stmt
             (λ name view is. of_lookup (λ s. length s.result ≤ query_size (named_sizes most) s.query) views name view (result_sizes views all done.current) is) db (settled before now most) done.sized));
         saved_sizes = subst (λ s. AreWithin (sizes_at files) s.files) (sym next_sizes) done.running.world.saved_sizes;
       };
-      live = ap (λ s. s.live) next_sizes ∙ ap (λ l. live_after l stmt) done.running.live ∙ sym done.live;
+      live = ap (λ s. s.live) next_sizes ∙ ap (λ l. live_after l stmt.0) done.running.live ∙ sym done.live;
       views = All-from_recursion (IsUpToDate (with_views views db) (sizes_after (effects ++ on_names stmt ∷ [])).names) views (fresh views all done.current);
     }

@@ -44,7 +44,7 @@ saved_running held files name file effects running world = record {
     next = fold-append size_after (record { names = []; files = []; live = [] }) effects (saved name file ∷ [])
 
 -- what an IMPORT leaves is what an INSERT of its rows does
-pub imported_done : (old new : Watched) (name : List ℕ) (rows : List (List Value)) → IsDone old new (on_names (t.Insert name rows)) → IsDone old new (imported name rows)
+pub imported_done : (old new : Watched) (name : List ℕ) (rows : List (List Value)) → IsDone old new (on_names (t.Insert name rows, tt)) → IsDone old new (imported name rows)
 imported_done old new name rows done files effects running =
     let after = done files effects running in record {
       world = record {
@@ -57,12 +57,12 @@ imported_done old new name rows done files effects running =
       views = subst (λ s. All (IsUpToDate new.names s.names) new.views) sizes after.views;
     }
   where
-    worlds : (d : ℤ) → world_of_day d (effects ++ on_names (t.Insert name rows) ∷ []) ≡ world_of_day d (effects ++ imported name rows ∷ [])
+    worlds : (d : ℤ) → world_of_day d (effects ++ on_names (t.Insert name rows, tt) ∷ []) ≡ world_of_day d (effects ++ imported name rows ∷ [])
     worlds d =
-        fold-append (ordinary_statement d) (record { names = []; files = []; live = [] }) effects (on_names (t.Insert name rows) ∷ [])
+        fold-append (ordinary_statement d) (record { names = []; files = []; live = [] }) effects (on_names (t.Insert name rows, tt) ∷ [])
         ∙ sym (fold-append (ordinary_statement d) (record { names = []; files = []; live = [] }) effects (imported name rows ∷ []))
 
-    sizes : sizes_after (effects ++ on_names (t.Insert name rows) ∷ []) ≡ sizes_after (effects ++ imported name rows ∷ [])
+    sizes : sizes_after (effects ++ on_names (t.Insert name rows, tt) ∷ []) ≡ sizes_after (effects ++ imported name rows ∷ [])
     sizes =
-        fold-append size_after (record { names = []; files = []; live = [] }) effects (on_names (t.Insert name rows) ∷ [])
+        fold-append size_after (record { names = []; files = []; live = [] }) effects (on_names (t.Insert name rows, tt) ∷ [])
         ∙ sym (fold-append size_after (record { names = []; files = []; live = [] }) effects (imported name rows ∷ []))

@@ -21,7 +21,7 @@ use Rattle.og_check.specs.declared.refusal.CheckRefusal.{CheckRefusal}
 use Rattle.og_check.specs.declared.refusal.CheckRefusal.TheVariants as checks
 use Rattle.og_db.specs.Effects.{Effect, on_names}
 use Rattle.og_db.specs.Runs.{known_after, stored}
-use Rattle.og_db.specs.Statements.{is_of_names}
+use Rattle.og_db.specs.Statements.{IsOfNames}
 use Rattle.og_io.specs.Folders.{Folder}
 use Rattle.og_faults.specs.Refusals.{by_checks}
 use Rattle.og_faults.specs.Stops.{stop_of_check, stop_of_put}
@@ -69,41 +69,41 @@ module _ (start : Folder) (n : ℕ) (before : List Effect) where
       (piece_of before e, appended, (subst (λ d. IsStateOf start before d folder) (sym same) state, ([], sym (append-nil (piece_of before e)))))
 
   -- a statement of names alone does what it says
-  pub effect-names : (contents : Contents) (typed : Typed) → is_of_names typed ≡ true → effect_of contents before typed ≡ Ok (on_names typed)
-  effect-names contents (t.Create name columns) is = refl
-  effect-names contents (t.Insert name rows) is = refl
-  effect-names contents (t.Delete name cond) is = refl
-  effect-names contents (t.Update name sets cond) is = refl
-  effect-names contents (t.Drop name) is = refl
-  effect-names contents t.Tables is = refl
-  effect-names contents (t.Keep name query) is = refl
-  effect-names contents (t.PrintName name day) is = refl
-  effect-names contents (t.PrintQuery query day) is = refl
-  effect-names contents (t.Explain query) is = refl
-  effect-names contents (t.Save name file) is = cc is
-  effect-names contents (t.OpenFile name file) is = cc is
-  effect-names contents (t.ImportFile name file) is = cc is
-  effect-names contents (t.Valid name day) is = refl
-  effect-names contents (t.Live name query) is = refl
+  pub effect-names : (contents : Contents) (typed : Typed) (of : IsOfNames typed) → effect_of contents before typed ≡ Ok (on_names (typed, of))
+  effect-names contents (t.Create name columns) of = refl
+  effect-names contents (t.Insert name rows) of = refl
+  effect-names contents (t.Delete name cond) of = refl
+  effect-names contents (t.Update name sets cond) of = refl
+  effect-names contents (t.Drop name) of = refl
+  effect-names contents t.Tables of = refl
+  effect-names contents (t.Keep name query) of = refl
+  effect-names contents (t.PrintName name day) of = refl
+  effect-names contents (t.PrintQuery query day) of = refl
+  effect-names contents (t.Explain query) of = refl
+  effect-names contents (t.Save name file) of = absurd of
+  effect-names contents (t.OpenFile name file) of = absurd of
+  effect-names contents (t.ImportFile name file) of = absurd of
+  effect-names contents (t.Valid name day) of = refl
+  effect-names contents (t.Live name query) of = refl
 
 -- a statement that is none of files acts on names alone
 pub of_names : (typed : Typed) → ((name file : List ℕ) → ¬ (typed ≡ t.Save name file)) → ((name file : List ℕ) → ¬ (typed ≡ t.OpenFile name file))
-    → ((name file : List ℕ) → ¬ (typed ≡ t.ImportFile name file)) → is_of_names typed ≡ true
-of_names (t.Create name columns) saves opens imports = refl
-of_names (t.Insert name rows) saves opens imports = refl
-of_names (t.Delete name cond) saves opens imports = refl
-of_names (t.Update name sets cond) saves opens imports = refl
-of_names (t.Drop name) saves opens imports = refl
-of_names t.Tables saves opens imports = refl
-of_names (t.Keep name query) saves opens imports = refl
-of_names (t.PrintName name day) saves opens imports = refl
-of_names (t.PrintQuery query day) saves opens imports = refl
-of_names (t.Explain query) saves opens imports = refl
+    → ((name file : List ℕ) → ¬ (typed ≡ t.ImportFile name file)) → IsOfNames typed
+of_names (t.Create name columns) saves opens imports = tt
+of_names (t.Insert name rows) saves opens imports = tt
+of_names (t.Delete name cond) saves opens imports = tt
+of_names (t.Update name sets cond) saves opens imports = tt
+of_names (t.Drop name) saves opens imports = tt
+of_names t.Tables saves opens imports = tt
+of_names (t.Keep name query) saves opens imports = tt
+of_names (t.PrintName name day) saves opens imports = tt
+of_names (t.PrintQuery query day) saves opens imports = tt
+of_names (t.Explain query) saves opens imports = tt
 of_names (t.Save name file) saves opens imports = absurd (saves name file refl)
 of_names (t.OpenFile name file) saves opens imports = absurd (opens name file refl)
 of_names (t.ImportFile name file) saves opens imports = absurd (imports name file refl)
-of_names (t.Valid name day) saves opens imports = refl
-of_names (t.Live name query) saves opens imports = refl
+of_names (t.Valid name day) saves opens imports = tt
+of_names (t.Live name query) saves opens imports = tt
 
 -- the query of what was checked, where it is a LIVE, is one of a live result
 abbrev IsLiveChecked : Checked Typed → Type 0

@@ -8,7 +8,7 @@ use Rattle.og_db.specs.Database.{Relation, names_at}
 use Rattle.og_db.specs.Held.{Held, known_of}
 use Rattle.og_db.specs.Live.{ends_with, kept_at, uses}
 use Rattle.og_db.specs.Runs.{AreWithin, sizes_at}
-use Rattle.og_db.specs.Statements.{names_after, name_sizes_after}
+use Rattle.og_db.specs.Statements.{IsOfNames, names_after, name_sizes_after}
 use Rattle.og_view.specs.Views.{Seen, IsAnswered}
 use Rattle.og_session.specs.Names.{Views}
 
@@ -47,9 +47,9 @@ IsReady stmt view = uses view.query (changed_name stmt) ≡ true → IsFit (know
 
 -- the bases are on each day what the statement makes of them
 pub record HaveChanged (stmt : Typed) (old new : List (Held Relation)) : Type 0 where
-  pub law : (d : ℤ) → IsRefDay d → names_at d new ≡ names_after d (names_at d old) stmt
+  pub law : (of : IsOfNames stmt) (d : ℤ) → IsRefDay d → names_at d new ≡ names_after d (names_at d old) (stmt, of)
   pub known : (other : List ℕ) → known_of new other ≡ known_of old other
-  pub size : AreWithin (sizes_at new) (name_sizes_after (sizes_at old) stmt)
+  pub size : (of : IsOfNames stmt) → AreWithin (sizes_at new) (name_sizes_after (sizes_at old) (stmt, of))
 
 -- a view after a statement that changes a table: where its query uses the table its bases have changed, and else it is as it was
 pub record IsFollowed (stmt : Typed) (old new : Seen) : Type 0 where

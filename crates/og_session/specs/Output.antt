@@ -42,23 +42,23 @@ valid_range before name day = record {
   hi = end_of (prints_same before name day) day (unsigned_abs (last_day -ℤ day));
 }
 
--- what a statement writes after those before it: a PRINT writes the rows in the world of its own day
+-- what a statement writes after those before it: a PRINT writes the rows in the world of its own day, and what is none of these writes nothing
 abbrev pub piece_of : List Effect → Effect → List ℕ
-piece_of before (on_names (t.PrintName name day)) = printed before name day
-piece_of before (on_names (t.PrintQuery query day)) = layout query.first.schema (ordinary_query day (named_rows (world_of_day day before).names) query)
-piece_of before (on_names t.Tables) = names_text (sizes_after before).names
-piece_of before (on_names (t.Explain query)) = plan_text (plan_of query)
-piece_of before (on_names (t.Valid name day)) = range_records (valid_range before name day)
-piece_of before (on_names (t.Create name columns)) = []
-piece_of before (on_names (t.Insert name rows)) = []
-piece_of before (on_names (t.Delete name cond)) = []
-piece_of before (on_names (t.Update name sets cond)) = []
-piece_of before (on_names (t.Drop name)) = []
-piece_of before (on_names (t.Keep name query)) = []
-piece_of before (on_names (t.Save name file)) = []
-piece_of before (on_names (t.OpenFile name file)) = []
-piece_of before (on_names (t.ImportFile name file)) = []
-piece_of before (on_names (t.Live name query)) = []
+piece_of before (on_names (t.PrintName name day, of)) = printed before name day
+piece_of before (on_names (t.PrintQuery query day, of)) = layout query.first.schema (ordinary_query day (named_rows (world_of_day day before).names) query)
+piece_of before (on_names (t.Tables, of)) = names_text (sizes_after before).names
+piece_of before (on_names (t.Explain query, of)) = plan_text (plan_of query)
+piece_of before (on_names (t.Valid name day, of)) = range_records (valid_range before name day)
+piece_of before (on_names (t.Create name columns, of)) = []
+piece_of before (on_names (t.Insert name rows, of)) = []
+piece_of before (on_names (t.Delete name cond, of)) = []
+piece_of before (on_names (t.Update name sets cond, of)) = []
+piece_of before (on_names (t.Drop name, of)) = []
+piece_of before (on_names (t.Keep name query, of)) = []
+piece_of before (on_names (t.Live name query, of)) = []
+piece_of before (on_names (t.Save name file, of)) = absurd of
+piece_of before (on_names (t.OpenFile name file, of)) = absurd of
+piece_of before (on_names (t.ImportFile name file, of)) = absurd of
 piece_of before (saved name file) = []
 piece_of before (reopened name file) = []
 piece_of before (opened name columns rows) = []

@@ -5,7 +5,7 @@ ghost use Rattle.og_query.specs.Fits.{IsFit};
 ghost use Rattle.og_db.specs.Database.{AreKept, names_at};
 ghost use Rattle.og_db.specs.Held.{known_of};
 ghost use Rattle.og_db.specs.Runs.{AreWithin, sizes_at};
-ghost use Rattle.og_db.specs.Statements.{names_after, name_sizes_after};
+ghost use Rattle.og_db.specs.Statements.{IsOfNames, names_after, name_sizes_after};
 ghost use Rattle.og_session.specs.Following.{IsChange, changed_name};
 
 use og_base::NoMemory;
@@ -19,10 +19,10 @@ use std::alloc::Global;
 pub fn change_table(alloc: Global, stmt: Typed, db: &mut Db) -> Result<(), NoMemory>
     requires change { IsChange stmt }
     requires fits { IsFit (known_of db.old) stmt }
-    ensures law { OnOk result ((d : ℤ) → IsRefDay d → names_at d db.new ≡ names_after d (names_at d db.old) stmt) }
+    ensures law { OnOk result ((of : IsOfNames stmt) (d : ℤ) → IsRefDay d → names_at d db.new ≡ names_after d (names_at d db.old) (stmt, of)) }
     ensures known { OnOk result ((other : List ℕ) → known_of db.new other ≡ known_of db.old other) }
     ensures others { OnOk result (AreKept (changed_name stmt) db.old db.new) }
-    ensures size { OnOk result (AreWithin (sizes_at db.new) (name_sizes_after (sizes_at db.old) stmt)) }
+    ensures size { OnOk result ((of : IsOfNames stmt) → AreWithin (sizes_at db.new) (name_sizes_after (sizes_at db.old) (stmt, of))) }
     ensures refused { OnErr result (db.new ≡ db.old) }
 {
     match stmt {

@@ -1,5 +1,5 @@
 //! What a statement does to the names.
-ghost use Rattle.std.specs.Prelude.{◌≡◌, ◌≤◌, true, ℕ, List, OnOk, OnErr};
+ghost use Rattle.std.specs.Prelude.{◌≡◌, ◌≤◌, ℕ, List, OnOk, OnErr};
 ghost use Rattle.og_par.specs.Limits.{max_workers};
 ghost use Rattle.og_query.specs.Fits.{IsFit};
 ghost use Rattle.og_query.specs.declared.typed.Typed.{Typed};
@@ -7,7 +7,7 @@ ghost use Rattle.og_query.specs.declared.typed.Typed.TheVariants as t;
 ghost use Rattle.og_db.specs.Effects.{on_names};
 ghost use Rattle.og_db.specs.Held.{known_of};
 ghost use Rattle.og_db.specs.Runs.{stored};
-ghost use Rattle.og_db.specs.Statements.{is_of_names};
+ghost use Rattle.og_db.specs.Statements.{IsOfNames};
 ghost use Rattle.og_session.specs.Following.{IsNoChange};
 ghost use Rattle.og_session.specs.Lives.{IsLiveTyped};
 ghost use Rattle.og_session.specs.Names.{IsDone};
@@ -34,10 +34,9 @@ pub fn execute<H: Threads + Sync, G: Gate + Sync>(
 ) -> Result<(), NoMemory>
     requires least { 1 ≤ workers }
     requires most { workers ≤ max_workers }
-    requires names { is_of_names stmt ≡ true }
     requires live { IsLiveTyped stmt }
     requires fits { IsFit (known_of names.old.names) stmt }
-    ensures done { OnOk result (IsDone names.old names.new (on_names stmt)) }
+    ensures done { OnOk result ((of : IsOfNames stmt) → IsDone names.old names.new (on_names (stmt, of))) }
     ensures refused { OnErr result (stored names.new.names ≡ stored names.old.names) }
 {
     match stmt {
@@ -63,11 +62,10 @@ fn name_or_drop<H: Threads + Sync, G: Gate + Sync>(
 ) -> Result<(), NoMemory>
     requires least { 1 ≤ workers }
     requires most { workers ≤ max_workers }
-    requires names { is_of_names stmt.now ≡ true }
     requires other { IsNoChange stmt.now }
     requires live { IsLiveTyped stmt.now }
     requires fits { IsFit (known_of names.old.names) stmt.now }
-    ensures done { OnOk result (IsDone names.old names.new (on_names stmt.now)) }
+    ensures done { OnOk result ((of : IsOfNames stmt.now) → IsDone names.old names.new (on_names (stmt.now, of))) }
     ensures refused { OnErr result (stored names.new.names ≡ stored names.old.names) }
 {
     match stmt {
@@ -99,7 +97,7 @@ fn keep<H: Threads + Sync, G: Gate + Sync>(
     requires least { 1 ≤ workers }
     requires most { workers ≤ max_workers }
     requires fits { IsFit (known_of names.old.names) (t.Keep name.now query.now) }
-    ensures done { OnOk result (IsDone names.old names.new (on_names (t.Keep name.now query.now))) }
+    ensures done { OnOk result (IsDone names.old names.new (on_names (t.Keep name.now query.now, tt))) }
     ensures refused { OnErr result (stored names.new.names ≡ stored names.old.names) }
 {
     found_names();

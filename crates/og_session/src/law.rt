@@ -78,7 +78,7 @@ pub fn valid_ranges()
 /// writes, each what TABLES says, and each with the columns that checks know. It has nothing to do: it is called
 /// for this contract.
 pub fn one_catalog()
-    ensures tables { (before : List Effect) (day : ℤ) → names_text (world_of_day day before).names ≡ piece_of before (on_names t.Tables) }
+    ensures tables { (before : List Effect) (day : ℤ) → names_text (world_of_day day before).names ≡ piece_of before (on_names (t.Tables, tt)) }
     ensures known { (before : List Effect) (day : ℤ) (name : List ℕ) → known_of (world_of_day day before).names name ≡ known_after before name }
 {}
 
@@ -90,10 +90,10 @@ pub fn live_results()
     ensures live { (words : List (List ℕ)) (source : List ℕ) (start : Folder) (run : Run) (before after : List Effect) → IsDefinedRun words source start run → run.done ≡ before ++ after →
         (day : ℤ) → All (λ l. found (world_of_day day before).names l.name ≡ Some (live_result what.Live day (world_of_day day before).names l)) (live_of before) }
     ensures all { (before : List Effect) (name : List ℕ) (columns : List Column) → known_after before name ≡ Some (what.Live, columns) → (query : Query) × (query_of (live_of before) name ≡ Some query) }
-    ensures dropped { (words : List (List ℕ)) (source : List ℕ) (start : Folder) (run : Run) (before after : List Effect) (table : List ℕ) → IsDefinedRun words source start run → run.done ≡ before ++ on_names (t.Drop table) ∷ after →
-        (day : ℤ) → All (λ l. uses l.query table ≡ true → found (world_of_day day (before ++ on_names (t.Drop table) ∷ [])).names l.name ≡ Some (live_result what.Kept day (world_of_day day before).names l)) (live_of before) }
+    ensures dropped { (words : List (List ℕ)) (source : List ℕ) (start : Folder) (run : Run) (before after : List Effect) (table : List ℕ) → IsDefinedRun words source start run → run.done ≡ before ++ on_names (t.Drop table, tt) ∷ after →
+        (day : ℤ) → All (λ l. uses l.query table ≡ true → found (world_of_day day (before ++ on_names (t.Drop table, tt) ∷ [])).names l.name ≡ Some (live_result what.Kept day (world_of_day day before).names l)) (live_of before) }
     ensures order { (before : List Effect) (table : List ℕ) (day : ℤ) →
-        map (λ h. h.name) (world_of_day day (before ++ on_names (t.Drop table) ∷ [])).names ≡ map (λ h. h.name) (without table (world_of_day day before).names) }
+        map (λ h. h.name) (world_of_day day (before ++ on_names (t.Drop table, tt) ∷ [])).names ≡ map (λ h. h.name) (without table (world_of_day day before).names) }
 {}
 
 /// Any files hold something.

@@ -17,7 +17,7 @@ ghost use Rattle.og_db.specs.Database.{Relation, HaveKinds, names_at};
 ghost use Rattle.og_db.specs.Effects.{on_names};
 ghost use Rattle.og_db.specs.Held.{known_of, rows_of};
 ghost use Rattle.og_db.specs.Runs.{sizes_at, stored};
-ghost use Rattle.og_db.specs.Statements.{named_rows, named_sizes};
+ghost use Rattle.og_db.specs.Statements.{IsOfNames, OfNames, named_rows, named_sizes};
 ghost use Rattle.og_view.specs.Views.{IsLiveQuery};
 ghost use Rattle.og_output.specs.Records.{names_text};
 ghost use Rattle.og_session.specs.Following.{IsChange, IsOnlyWritten};
@@ -100,7 +100,7 @@ impl Names {
 
     /// A statement that only writes leaves all as it is.
     pub fn stay(&self)
-        ensures { (stmt : Typed) → IsOnlyWritten stmt → IsDone self.now self.now (on_names stmt) }
+        ensures { (stmt : OfNames) → IsOnlyWritten stmt.0 → IsDone self.now self.now (on_names stmt) }
     {
         self.db.names_differ();
     }
@@ -108,7 +108,7 @@ impl Names {
     /// Adds a table without rows, as the last name. Refused only for want of memory.
     pub fn create(&mut self, name: Name, schema: Schema) -> Result<(), NoMemory>
         requires { IsNew (known_of self.old.names) name }
-        ensures done { OnOk result (IsDone self.old self.new (on_names (t.Create name schema))) }
+        ensures done { OnOk result (IsDone self.old self.new (on_names (t.Create name schema, tt))) }
         ensures refused { OnErr result (stored self.new.names ≡ stored self.old.names) }
     {
         self.db.names_differ();
@@ -124,7 +124,7 @@ impl Names {
         ensures added { OnOk result (IsAdded self.old self.new) }
         ensures done { OnOk result ((query : Query) → schema ≡ query.first.schema →
             ((d : ℤ) → IsRefDay d → relation_at row_order row_at rel d ≡ ordinary_query d (named_rows (names_at d self.old.names)) query) →
-            length rel ≤ query_size (named_sizes (sizes_at self.old.names)) query → IsDone self.old self.new (on_names (t.Keep name query))) }
+            length rel ≤ query_size (named_sizes (sizes_at self.old.names)) query → IsDone self.old self.new (on_names (t.Keep name query, tt))) }
         ensures refused { OnErr result (stored self.new.names ≡ stored self.old.names) }
     {
         self.db.names_differ();
@@ -145,7 +145,7 @@ impl Names {
         requires most { workers ≤ max_workers }
         requires fits { IsFit (known_of self.old.names) (t.Live name.now query.now) }
         requires live { IsLiveQuery query.now }
-        ensures done { OnOk result (IsDone self.old self.new (on_names (t.Live name.now query.now))) }
+        ensures done { OnOk result (IsDone self.old self.new (on_names (t.Live name.now query.now, tt))) }
         ensures refused { OnErr result (stored self.new.names ≡ stored self.old.names) }
     {
         self.rows_fit();
@@ -175,7 +175,7 @@ impl Names {
         requires most { workers ≤ max_workers }
         requires change { IsChange stmt }
         requires fits { IsFit (known_of self.old.names) stmt }
-        ensures done { OnOk result (IsDone self.old self.new (on_names stmt)) }
+        ensures done { OnOk result ((of : IsOfNames stmt) → IsDone self.old self.new (on_names (stmt, of))) }
         ensures refused { OnErr result (stored self.new.names ≡ stored self.old.names) }
     {
         self.db.names_differ();
@@ -189,7 +189,7 @@ impl Names {
     /// Takes a name out. A live result whose query names it becomes a kept one, with the rows that it has. Takes
     /// no memory.
     pub fn drop_name(&mut self, name: &Name)
-        ensures { IsDone self.old self.new (on_names (t.Drop name.now)) }
+        ensures { IsDone self.old self.new (on_names (t.Drop name.now, tt)) }
     {
         self.db.names_differ();
         settle_all(name, &mut self.views, &mut self.db);

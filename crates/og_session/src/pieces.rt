@@ -9,6 +9,7 @@ ghost use Rattle.og_db.specs.Held.{Held, known_of};
 ghost use Rattle.og_db.specs.Database.{Relation};
 ghost use Rattle.og_db.specs.Effects.{Effect, on_names};
 ghost use Rattle.og_db.specs.Runs.{IsWorldOf};
+ghost use Rattle.og_db.specs.Statements.{IsOfNames};
 ghost use Rattle.og_faults.specs.Counts.{IsFaultCount, is_unput};
 ghost use Rattle.og_output.specs.Puts.{IsPut};
 ghost use Rattle.og_session.specs.Headline.{HasGrown};
@@ -42,7 +43,8 @@ pub fn put_piece<H: Threads + Sync, K: Sink, G: Gate + Sync>(
     requires least { 1 ≤ workers }
     requires most { workers ≤ max_workers }
     requires fits { IsFit (known_of names.now.names) stmt.now }
-    ensures put { (files : List (Held Relation)) (before : List Effect) → IsWorldOf names.now.names files before → IsPut (K.written out.old) (K.written out.new) (piece_of before (on_names stmt.now)) result }
+    ensures put { (of : IsOfNames stmt.now) (files : List (Held Relation)) (before : List Effect) → IsWorldOf names.now.names files before →
+        IsPut (K.written out.old) (K.written out.new) (piece_of before (on_names (stmt.now, of))) result }
     ensures counted { IsFaultCount (is_unput result) (K.faults out.old) (K.faults out.new) }
     ensures grown { HasGrown (K.written out.old) (K.written out.new) }
 {
@@ -73,7 +75,7 @@ fn put_name<H: Threads + Sync, K: Sink, G: Gate + Sync>(
 ) -> Result<(), PutRefusal>
     requires least { 1 ≤ workers }
     requires most { workers ≤ max_workers }
-    ensures put { (files : List (Held Relation)) (before : List Effect) → IsWorldOf names.now.names files before → IsPut (K.written out.old) (K.written out.new) (piece_of before (on_names (t.PrintName name.now day))) result }
+    ensures put { (files : List (Held Relation)) (before : List Effect) → IsWorldOf names.now.names files before → IsPut (K.written out.old) (K.written out.new) (piece_of before (on_names (t.PrintName name.now day, tt))) result }
     ensures counted { IsFaultCount (is_unput result) (K.faults out.old) (K.faults out.new) }
     ensures grown { HasGrown (K.written out.old) (K.written out.new) }
 {
@@ -103,7 +105,7 @@ fn put_query<H: Threads + Sync, K: Sink, G: Gate + Sync>(
     requires least { 1 ≤ workers }
     requires most { workers ≤ max_workers }
     requires fits { IsFitQuery (schemas_of (known_of names.now.names)) query.now }
-    ensures put { (files : List (Held Relation)) (before : List Effect) → IsWorldOf names.now.names files before → IsPut (K.written out.old) (K.written out.new) (piece_of before (on_names (t.PrintQuery query.now day))) result }
+    ensures put { (files : List (Held Relation)) (before : List Effect) → IsWorldOf names.now.names files before → IsPut (K.written out.old) (K.written out.new) (piece_of before (on_names (t.PrintQuery query.now day, tt))) result }
     ensures counted { IsFaultCount (is_unput result) (K.faults out.old) (K.faults out.new) }
     ensures grown { HasGrown (K.written out.old) (K.written out.new) }
 {

@@ -7,7 +7,7 @@ ghost use Rattle.og_syntax.specs.declared.tree.Stmt.{Stmt};
 ghost use Rattle.og_query.specs.Fits.{IsFit};
 ghost use Rattle.og_db.specs.Effects.{Effect, on_names};
 ghost use Rattle.og_db.specs.Held.{known_of};
-ghost use Rattle.og_db.specs.Statements.{is_of_names};
+ghost use Rattle.og_db.specs.Statements.{IsOfNames};
 ghost use Rattle.og_faults.specs.Counts.{IsAbsenceCount, IsFaultCount, is_file_fault, is_write_fault};
 ghost use Rattle.og_script.specs.LiveTexts.{IsLiveStmt};
 ghost use Rattle.og_session.specs.Asked.{StepAsks};
@@ -147,11 +147,10 @@ fn on_names<H: Threads + Sync, K: Sink, G: Gate + Sync>(
 ) -> Result<(), Stop>
     requires least { 1 ≤ workers }
     requires most { workers ≤ max_workers }
-    requires names { is_of_names typed ≡ true }
     requires live { IsLiveTyped typed }
     requires fits { IsFit (known_of names.old.names) typed }
-    ensures ends { (start : Folder) (n : ℕ) (before : List Effect) (folder : Option Folder) → IsHeldState start before names.old folder →
-        (text : List ℕ) × Appends (K.written out.old) (K.written out.new) text × StepEnds start n before (Ok (on_names typed)) names.new folder text result }
+    ensures ends { (of : IsOfNames typed) (start : Folder) (n : ℕ) (before : List Effect) (folder : Option Folder) → IsHeldState start before names.old folder →
+        (text : List ℕ) × Appends (K.written out.old) (K.written out.new) text × StepEnds start n before (Ok (on_names (typed, of))) names.new folder text result }
     ensures stops { IsPutStop result }
     ensures writes { IsFaultCount (is_write_fault result) (K.faults out.old) (K.faults out.new) }
     ensures grown { HasGrown (K.written out.old) (K.written out.new) }

@@ -31,7 +31,7 @@ pub fn put_valid<K: Sink>(
     out: &mut K,
 ) -> Result<(), PutRefusal>
     requires { IsNamed (known_of names.now.names) name.now }
-    ensures put { (files : List (Held Relation)) (before : List Effect) → IsWorldOf names.now.names files before → IsPut (K.written out.old) (K.written out.new) (piece_of before (on_names (t.Valid name.now day))) result }
+    ensures put { (files : List (Held Relation)) (before : List Effect) → IsWorldOf names.now.names files before → IsPut (K.written out.old) (K.written out.new) (piece_of before (on_names (t.Valid name.now day, tt))) result }
     ensures counted { IsFaultCount (is_unput result) (K.faults out.old) (K.faults out.new) }
     ensures grown { HasGrown (K.written out.old) (K.written out.new) }
 {

@@ -36,10 +36,10 @@ module _ (bases : List (Held Relation)) (name : List ℕ) (columns : List Column
 
   -- what is left of the touched rows
   module _ (left : Relation) (leaves : (d : ℤ) → IsRefDay d → rows_on left d ≡ filter (λ row. not (truth d row cond)) (rows_on rows d)) where
-    pub left-names : (d : ℤ) → IsRefDay d → names_at d (instead_at name touch left bases) ≡ names_after d (names_at d bases) (t.Delete name cond)
+    pub left-names : (d : ℤ) → IsRefDay d → names_at d (instead_at name touch left bases) ≡ names_after d (names_at d bases) (t.Delete name cond, tt)
     left-names = left_names touch cond never bases name own.0 rows own.1 apart are left leaves
 
-    pub left-sizes : length left ≤ length rows → AreWithin (sizes_at (instead_at name touch left bases)) (name_sizes_after (sizes_at bases) (t.Delete name cond))
+    pub left-sizes : length left ≤ length rows → AreWithin (sizes_at (instead_at name touch left bases)) (name_sizes_after (sizes_at bases) (t.Delete name cond, tt))
     left-sizes most = left_sizes touch cond never bases name own.0 rows own.1 apart are left most
 
     -- and what is gone of them
@@ -53,11 +53,11 @@ module _ (bases : List (Held Relation)) (name : List ℕ) (columns : List Column
       -- and what an update makes of them
       module _ (sets : List Assign) (changed : Relation)
           (changes : (d : ℤ) → IsRefDay d → rows_on changed d ≡ set_of row_order (map (λ row. if truth d row cond then assigned d sets row else row) (rows_on rows d))) where
-        pub changed-names : (d : ℤ) → IsRefDay d → names_at d (instead_at name touch changed bases) ≡ names_after d (names_at d bases) (t.Update name sets cond)
+        pub changed-names : (d : ℤ) → IsRefDay d → names_at d (instead_at name touch changed bases) ≡ names_after d (names_at d bases) (t.Update name sets cond, tt)
         changed-names =
             changed_names touch cond never bases name own.0 rows own.1 apart are sets changed changes
 
-        pub changed-sizes : length changed ≤ 2 * length rows → AreWithin (sizes_at (instead_at name touch changed bases)) (name_sizes_after (sizes_at bases) (t.Update name sets cond))
+        pub changed-sizes : length changed ≤ 2 * length rows → AreWithin (sizes_at (instead_at name touch changed bases)) (name_sizes_after (sizes_at bases) (t.Update name sets cond, tt))
         changed-sizes most = changed_sizes touch cond never bases name own.0 rows own.1 apart are sets changed most
 
         pub grows : (new : Relation) → ((d : ℤ) → IsRefDay d → rows_on new d ≡ set_of row_order (map (assigned d sets) (rows_on gone d)))

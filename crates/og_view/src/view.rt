@@ -162,9 +162,9 @@ impl View {
         requires table { (columns : List Column) × IsTableOf columns self.old.bases name.now × All (IsFitRow columns) rows.now }
         ensures query { OnOk result (self.new.query ≡ self.old.query) }
         ensures law { OnOk result ((d : ℤ) → IsRefDay d →
-            names_at d self.new.bases ≡ names_after d (names_at d self.old.bases) (t.Insert name.now rows.now)) }
+            names_at d self.new.bases ≡ names_after d (names_at d self.old.bases) (t.Insert name.now rows.now, tt)) }
         ensures known { OnOk result ((other : List ℕ) → known_of self.new.bases other ≡ known_of self.old.bases other) }
-        ensures size { OnOk result (AreWithin (sizes_at self.new.bases) (name_sizes_after (sizes_at self.old.bases) (t.Insert name.now rows.now))) }
+        ensures size { OnOk result (AreWithin (sizes_at self.new.bases) (name_sizes_after (sizes_at self.old.bases) (t.Insert name.now rows.now, tt))) }
         ensures refused { OnErr result (self.new ≡ self.old) }
     {
         self.kept();
@@ -190,9 +190,9 @@ impl View {
         requires table { (columns : List Column) × IsTableOf columns self.old.bases name.now }
         ensures query { OnOk result (self.new.query ≡ self.old.query) }
         ensures law { OnOk result ((d : ℤ) → IsRefDay d →
-            names_at d self.new.bases ≡ names_after d (names_at d self.old.bases) (t.Delete name.now cond.now)) }
+            names_at d self.new.bases ≡ names_after d (names_at d self.old.bases) (t.Delete name.now cond.now, tt)) }
         ensures known { OnOk result ((other : List ℕ) → known_of self.new.bases other ≡ known_of self.old.bases other) }
-        ensures size { OnOk result (AreWithin (sizes_at self.new.bases) (name_sizes_after (sizes_at self.old.bases) (t.Delete name.now cond.now))) }
+        ensures size { OnOk result (AreWithin (sizes_at self.new.bases) (name_sizes_after (sizes_at self.old.bases) (t.Delete name.now cond.now, tt))) }
         ensures refused { OnErr result (self.new ≡ self.old) }
     {
         self.bases.names_differ();
@@ -232,9 +232,9 @@ impl View {
         requires table { (columns : List Column) × IsTableOf columns self.old.bases name.now × All (IsFitAssign columns) sets.now }
         ensures query { OnOk result (self.new.query ≡ self.old.query) }
         ensures law { OnOk result ((d : ℤ) → IsRefDay d →
-            names_at d self.new.bases ≡ names_after d (names_at d self.old.bases) (t.Update name.now sets.now cond.now)) }
+            names_at d self.new.bases ≡ names_after d (names_at d self.old.bases) (t.Update name.now sets.now cond.now, tt)) }
         ensures known { OnOk result ((other : List ℕ) → known_of self.new.bases other ≡ known_of self.old.bases other) }
-        ensures size { OnOk result (AreWithin (sizes_at self.new.bases) (name_sizes_after (sizes_at self.old.bases) (t.Update name.now sets.now cond.now))) }
+        ensures size { OnOk result (AreWithin (sizes_at self.new.bases) (name_sizes_after (sizes_at self.old.bases) (t.Update name.now sets.now cond.now, tt))) }
         ensures refused { OnErr result (self.new ≡ self.old) }
     {
         self.bases.names_differ();

@@ -14,7 +14,7 @@ pub returns-clause-same : goal.returns-clause-same
 returns-clause-same c = within-refl
 
 pub returns-clause-no_live_names : goal.returns-clause-no_live_names
-returns-clause-no_live_names c effects stmt before now d names = followed-none (λ after. ordinary_query d (named_rows after)) (live_of effects) stmt before now (names_after d names stmt)
+returns-clause-no_live_names c effects stmt before now d names = followed-none (λ after. ordinary_query d (named_rows after)) (live_of effects) stmt.0 before now (names_after d names stmt)
 
 pub returns-clause-no_live_sizes : goal.returns-clause-no_live_sizes
-returns-clause-no_live_sizes c effects stmt before now sizes = followed-none (λ after. query_size (named_sizes after)) (live_of effects) stmt before now (name_sizes_after sizes stmt)
+returns-clause-no_live_sizes c effects stmt before now sizes = followed-none (λ after. query_size (named_sizes after)) (live_of effects) stmt.0 before now (name_sizes_after sizes stmt)

@@ -12,7 +12,7 @@ pub returns-clause-all : goal.returns-clause-all
 returns-clause-all c = live_has_query
 
 pub returns-clause-dropped : goal.returns-clause-dropped
-returns-clause-dropped c words source start run before after table defined parts day = dropped_rows day words source start run before (on_names (t.Drop table) ∷ after) defined parts table
+returns-clause-dropped c words source start run before after table defined parts day = dropped_rows day words source start run before (on_names (t.Drop table, tt) ∷ after) defined parts table
 
 pub returns-clause-order : goal.returns-clause-order
 returns-clause-order c before table day = dropped_order day before table

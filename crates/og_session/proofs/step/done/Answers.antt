@@ -9,9 +9,6 @@ use Rattle.og_session.proofs.StepLemmas.{effect-names, of_names}
 use Rattle.og_session.proofs.GrownLemmas.{grown_none}
 use Rattle.og_session.proofs.step.done.Goals as goal
 
-pub on_names-requires-clause-names : goal.on_names-requires-clause-names
-on_names-requires-clause-names g c κs within = of_names c.args.typed c.in_default.not-Save c.in_default.not-OpenFile c.in_default.not-ImportFile
-
 pub returns-in-Save-clause-ends : goal.returns-in-Save-clause-ends
 returns-in-Save-clause-ends g c start contents holds before state =
     ([], Appends-nil _, subst (λ t. StepEnds start c.args.number before (taken (effect_of contents before t)) c.args.names.now (g.F.Files.folder c.save.new.files) [] c.save.result) (sym c.in-Save.is) (c.save.ensures.ends start c.args.number before state))
@@ -26,9 +23,9 @@ returns-in-ImportFile-clause-ends g c start contents holds before state =
 
 pub returns-in_default-clause-ends : goal.returns-in_default-clause-ends
 returns-in_default-clause-ends g c start contents holds before state =
-    let names = of_names c.args.typed c.in_default.not-Save c.in_default.not-OpenFile c.in_default.not-ImportFile in
-    let ends = c.on_names.ensures.ends start c.args.number before (g.F.Files.folder c.args.files.now) state in
-    (ends.0, ends.1, subst (λ o. StepEnds start c.args.number before (taken o) c.on_names.new.names (g.F.Files.folder c.args.files.now) ends.0 c.on_names.result) (sym (effect-names start c.args.number before contents c.args.typed names)) ends.2)
+    let of = of_names c.args.typed c.in_default.not-Save c.in_default.not-OpenFile c.in_default.not-ImportFile in
+    let ends = c.on_names.ensures.ends of start c.args.number before (g.F.Files.folder c.args.files.now) state in
+    (ends.0, ends.1, subst (λ o. StepEnds start c.args.number before (taken o) c.on_names.new.names (g.F.Files.folder c.args.files.now) ends.0 c.on_names.result) (sym (effect-names start c.args.number before contents c.args.typed of)) ends.2)
 
 pub returns-in_default-clause-late : goal.returns-in_default-clause-late
 returns-in_default-clause-late g c = step_by_put c.on_names.result c.on_names.ensures.stops
@@ -59,5 +56,5 @@ returns-in-ImportFile-clause-asked g c contents before =
 
 pub returns-in_default-clause-asked : goal.returns-in_default-clause-asked
 returns-in_default-clause-asked g c contents before =
-    let names = of_names c.args.typed c.in_default.not-Save c.in_default.not-OpenFile c.in_default.not-ImportFile in
-    subst (λ o. StepAsks (taken o) c.on_names.result (g.F.Files.calls c.args.files.now) (g.F.Files.calls c.args.files.now)) (sym (effect-names (λ _. None) c.args.number before contents c.args.typed names)) (names-ask c.args.typed c.on_names.result _)
+    let of = of_names c.args.typed c.in_default.not-Save c.in_default.not-OpenFile c.in_default.not-ImportFile in
+    subst (λ o. StepAsks (taken o) c.on_names.result (g.F.Files.calls c.args.files.now) (g.F.Files.calls c.args.files.now)) (sym (effect-names (λ _. None) c.args.number before contents c.args.typed of)) (names-ask (c.args.typed, of) c.on_names.result _)

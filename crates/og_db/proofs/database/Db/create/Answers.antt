@@ -25,7 +25,7 @@ returns-clause-size c =
     let old = c.args.self.now in
     let added : Held Relation = record { name = c.args.name; what = what.Table; columns = c.args.schema; rows = [] } in
     on_ok_weaker c.enter.result (λ e.
-    subst (λ db. AreWithin (sizes_at db) (name_sizes_after (sizes_at old) (t.Create c.args.name c.args.schema)))
+    subst (λ db. AreWithin (sizes_at db) (name_sizes_after (sizes_at old) (t.Create c.args.name c.args.schema, tt)))
     (sym (e ∙ (λ i. old ++ record { name = c.args.name; what = what.Table; columns = c.args.schema; rows = c.new-rel.ensures i } ∷ [])))
     (within-added old added _ (record { name = refl; what = refl; rows = omega arith })))
     c.enter.ensures.entered

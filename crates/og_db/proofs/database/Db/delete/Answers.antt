@@ -42,7 +42,7 @@ pub returns-clause-size : goal.returns-clause-size
 returns-clause-size c =
     let h = c.rows_fit.ensures.held c.args.name.now c.requires.table.0 (ap columns_of c.requires.table.1) in
     on_ok_weaker c.replace.result (λ e.
-    subst (λ db. AreWithin (sizes_at db) (name_sizes_after (sizes_at c.args.self.now) (t.Delete c.args.name.now c.args.cond.now))) (sym e)
+    subst (λ db. AreWithin (sizes_at db) (name_sizes_after (sizes_at c.args.self.now) (t.Delete c.args.name.now c.args.cond.now, tt))) (sym e)
     (left_sizes (λ row. may_hold row c.new-test.result) c.args.cond.now (λ row out. c.bounds_hold.ensures row c.args.cond.now (ap (may_hold row) (sym c.new-test.ensures) ∙ out))
     c.args.self.now c.args.name.now h.0 (passing (λ row. may_hold row c.new-test.result) c.table.result.now) h.1 c.names_differ.ensures (ap (passing (λ row. may_hold row c.new-test.result)) (c.table.ensures.rows h.0 h.1)) c.in_ok-left.left c.in_ok-left.ensures.size))
     c.replace.ensures.replaced

@@ -27,4 +27,4 @@ returns-clause-law c d day = ap (names_at d) (returns-clause-dropped c) ∙ all_
 
 pub returns-clause-size : goal.returns-clause-size
 returns-clause-size c =
-    subst (λ db. AreWithin (sizes_at db) (name_sizes_after (sizes_at c.args.self.now) (t.Drop c.args.name.now))) (sym (returns-clause-dropped c)) (within-dropped c.args.name.now c.args.self.now)
+    subst (λ db. AreWithin (sizes_at db) (name_sizes_after (sizes_at c.args.self.now) (t.Drop c.args.name.now, tt))) (sym (returns-clause-dropped c)) (within-dropped c.args.name.now c.args.self.now)

@@ -45,7 +45,7 @@ returns-clause-others c =
 pub returns-clause-size : goal.returns-clause-size
 returns-clause-size c =
     on_ok_weaker c.add.result (λ e.
-    subst (λ db. AreWithin (sizes_at db) (name_sizes_after (sizes_at c.args.self.now) (t.Insert c.args.name.now c.args.rows.items))) (sym e)
+    subst (λ db. AreWithin (sizes_at db) (name_sizes_after (sizes_at c.args.self.now) (t.Insert c.args.name.now c.args.rows.items, tt))) (sym e)
     (within-made_everywhere c.args.name.now length (λ rel. rel ++ c.in_ok-more.more) (λ n. n + length c.args.rows.items) c.args.self.now
     (λ rel. subst (λ more. length (rel ++ more) ≤ length rel + length c.args.rows.items) (sym c.in_ok-more.ensures) (length-inserted rel c.args.rows.items))))
     c.add.ensures.added

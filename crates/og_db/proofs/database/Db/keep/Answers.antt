@@ -28,6 +28,6 @@ returns-clause-size c =
     let old = c.args.self.now in
     let kept : Held Relation = record { name = c.args.name; what = what.Kept; columns = c.args.schema; rows = c.args.rel } in
     on_ok_weaker c.enter.result (λ e query same most.
-    subst (λ db. AreWithin (sizes_at db) (name_sizes_after (sizes_at old) (t.Keep c.args.name query))) (sym e)
+    subst (λ db. AreWithin (sizes_at db) (name_sizes_after (sizes_at old) (t.Keep c.args.name query, tt))) (sym e)
     (within-added old kept _ (record { name = refl; what = ap (λ columns. (what.Kept, columns)) same; rows = most })))
     c.enter.ensures.entered

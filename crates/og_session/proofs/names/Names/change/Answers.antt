@@ -65,11 +65,11 @@ returns-clause-done g c =
     let path : known_of c.args.self.now.names ≡ known_of db = λ i name. (sym (sym (known_of-shown views db name) ∙ ap (λ n. known_of n.names name) c.self.view_is)) i in
     let table = change_table_known (known_of db) c.args.stmt c.requires.change (subst (λ k. IsFit k c.args.stmt) path c.requires.fits) in
     on_ok_four c.change_table.result c.change_table.ensures.law c.change_table.ensures.size c.change_table.ensures.known c.change_table.ensures.others
-    (λ law size known others.
-    subst (λ n. IsDone n (watched c.change_table.new.db now) (on_names c.args.stmt)) c.self.view_is
-    (change_done db views c.self.invariant c.names_differ.ensures c.args.stmt c.requires.change c.change_table.new.db now
+    (λ law size known others of.
+    subst (λ n. IsDone n (watched c.change_table.new.db now) (on_names (c.args.stmt, of))) c.self.view_is
+    (change_done db views c.self.invariant c.names_differ.ensures (c.args.stmt, of) c.requires.change c.change_table.new.db now
     (kept_views db c.change_table.new.db known (λ name columns is. others name (λ e. live_or_table columns table.0 (sym is ∙ ap (known_of db) e ∙ table.1)))
-    views now c.in_default.ensures.kept c.self.invariant) c.in_default.ensures.followed law size))
+    views now c.in_default.ensures.kept c.self.invariant) c.in_default.ensures.followed (law of) (size of)))
 
 pub returns-clause-refused : goal.returns-clause-refused
 returns-clause-refused g c =

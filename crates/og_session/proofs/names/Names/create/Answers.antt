@@ -29,7 +29,7 @@ returns-clause-done c =
     let db = c.self.inside.db in
     let is_new : known_of db c.args.name ≡ None = sym (known_of-shown views db c.args.name) ∙ ap (λ n. known_of n.names c.args.name) c.self.view_is ∙ c.requires in
     on_ok_weaker c.create.result
-    (λ e. subst (λ n. IsDone n (watched c.create.new.self views) (on_names (t.Create c.args.name c.args.schema))) c.self.view_is
-    (subst (λ d. IsDone (watched db views) (watched d views) (on_names (t.Create c.args.name c.args.schema))) (sym e)
+    (λ e. subst (λ n. IsDone n (watched c.create.new.self views) (on_names (t.Create c.args.name c.args.schema, tt))) c.self.view_is
+    (subst (λ d. IsDone (watched db views) (watched d views) (on_names (t.Create c.args.name c.args.schema, tt))) (sym e)
     (create_done db views c.self.invariant c.names_differ.ensures c.args.name c.args.schema is_new)))
     c.create.ensures.created

@@ -23,8 +23,8 @@ returns c =
     let views = c.self.inside.views.entries in
     let name = c.args.name.now in
     let left : c.drop_name.new.self ≡ without name (settle_views name views db) = c.drop_name.ensures.dropped ∙ ap (without name) c.settle_all.ensures.settled in
-    subst (λ n. IsDone n (watched c.drop_name.new.self c.settle_all.new.views.entries) (on_names (t.Drop name))) c.self.view_is
-    (subst (λ es. IsDone (watched db views) (watched c.drop_name.new.self es) (on_names (t.Drop name))) (sym c.settle_all.ensures.left)
-    (subst (λ d. IsDone (watched db views) (watched d (lasting name views)) (on_names (t.Drop name))) (sym left)
+    subst (λ n. IsDone n (watched c.drop_name.new.self c.settle_all.new.views.entries) (on_names (t.Drop name, tt))) c.self.view_is
+    (subst (λ es. IsDone (watched db views) (watched c.drop_name.new.self es) (on_names (t.Drop name, tt))) (sym c.settle_all.ensures.left)
+    (subst (λ d. IsDone (watched db views) (watched d (lasting name views)) (on_names (t.Drop name, tt))) (sym left)
     (dropped name db views c.settle_all.ensures.apart c.self.invariant
     (drop_alike name views c.settle_all.ensures.apart db) (drop_sized name views c.settle_all.ensures.apart db c.names_differ.ensures c.self.invariant))))

@@ -46,8 +46,8 @@ returns-clause-done c =
     let db = c.self.inside.db in
     let is_new : known_of db c.args.name ≡ None = sym (known_of-shown views db c.args.name) ∙ ap (λ n. known_of n.names c.args.name) c.self.view_is ∙ c.requires.new in
     on_ok_weaker c.keep.result
-    (λ e query columns rows size. subst (λ n. IsDone n (watched c.keep.new.self views) (on_names (t.Keep c.args.name query))) c.self.view_is
-    (subst (λ d. IsDone (watched db views) (watched d views) (on_names (t.Keep c.args.name query))) (sym e)
+    (λ e query columns rows size. subst (λ n. IsDone n (watched c.keep.new.self views) (on_names (t.Keep c.args.name query, tt))) c.self.view_is
+    (subst (λ d. IsDone (watched db views) (watched d views) (on_names (t.Keep c.args.name query, tt))) (sym e)
     (keep_done db views c.self.invariant c.names_differ.ensures c.args.name c.args.schema c.args.rel query is_new columns
     (subst (λ n. (d : ℤ) → IsRefDay d → relation_at row_order row_at c.args.rel d ≡ ordinary_query d (named_rows (names_at d n.names)) query) (sym c.self.view_is) rows)
     (subst (λ n. length c.args.rel ≤ query_size (named_sizes (sizes_at n.names)) query) (sym c.self.view_is) size))))

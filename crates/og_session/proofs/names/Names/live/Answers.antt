@@ -66,9 +66,9 @@ returns-clause-done g c =
     λ other used d day. c.in_ok-view.ensures.rows other (subst (λ q. uses q other ≡ true) c.in_ok-view.ensures.query used) d day ∙ ap (λ n. rows_at (rows_of n.names) d other) (sym c.self.view_is) in
     let sizes : (other : List ℕ) → uses view.query other ≡ true → sizes_of (rows_of view.bases) other ≡ sizes_of (rows_of (with_views views db)) other =
     λ other used. c.in_ok-view.ensures.sizes other (subst (λ q. uses q other ≡ true) c.in_ok-view.ensures.query used) ∙ ap (λ n. sizes_of (rows_of n.names) other) (sym c.self.view_is) in
-    subst (λ q. IsDone c.args.self.now (watched c.live.new.self c.insert.new.self.entries) (on_names (t.Live name q))) c.in_ok-view.ensures.query
-    (subst (λ n. IsDone n (watched c.live.new.self c.insert.new.self.entries) (on_names (t.Live name view.query))) c.self.view_is
-    (subst (λ es. IsDone (watched db views) (watched c.live.new.self es) (on_names (t.Live name view.query))) (sym entries)
-    (subst (λ d. IsDone (watched db views) (watched d (views ++ (name, view) ∷ [])) (on_names (t.Live name view.query)))
+    subst (λ q. IsDone c.args.self.now (watched c.live.new.self c.insert.new.self.entries) (on_names (t.Live name q, tt))) c.in_ok-view.ensures.query
+    (subst (λ n. IsDone n (watched c.live.new.self c.insert.new.self.entries) (on_names (t.Live name view.query, tt))) c.self.view_is
+    (subst (λ es. IsDone (watched db views) (watched c.live.new.self es) (on_names (t.Live name view.query, tt))) (sym entries)
+    (subst (λ d. IsDone (watched db views) (watched d (views ++ (name, view) ∷ [])) (on_names (t.Live name view.query, tt)))
     (λ i. sym (c.in_ok-live.ensures.added ∙ (λ j. db ++ record { name = c.in_ok-shown.ensures j; what = what.Live; columns = (c.in_ok-schema.ensures ∙ ap (λ q. q.first.schema) (sym c.in_ok-view.ensures.query)) j; rows = [] } ∷ [])) i)
     (live_done db views c.self.invariant name view new (record { live = c.kept.ensures.live; fits = c.kept.ensures.fits; law = c.kept.ensures.law; size = c.kept.ensures.size; kinds = c.kept.ensures.kinds }) known c.names_differ.ensures rows sizes))))

@@ -50,6 +50,6 @@ pub returns-clause-size : goal.returns-clause-size
 returns-clause-size g c =
     let t = c.requires.table in
     on_ok_weaker c.shrink.result (λ e.
-    subst (λ db. AreWithin (sizes_at db) (name_sizes_after (sizes_at c.args.self.now.bases) (typed.Delete c.args.name.now c.args.cond.now))) (sym e)
+    subst (λ db. AreWithin (sizes_at db) (name_sizes_after (sizes_at c.args.self.now.bases) (typed.Delete c.args.name.now c.args.cond.now, tt))) (sym e)
     (left-sizes c.args.self.now.bases c.args.name.now t.0 t.1 (subst (λ v. IsDistinct bytes_eq (map (λ h. h.name) v.bases)) c.self.view_is c.names_differ.ensures) (λ row. may_hold row c.new-test.result) c.args.cond.now (λ row out d day. c.bounds_hold.ensures row c.args.cond.now (ap (may_hold row) (sym c.new-test.ensures) ∙ out) d day) c.in_ok-rows.rows (λ rel is. c.in_ok-rows.ensures.rows rel (ap (λ v. rows_of v.bases c.args.name.now) c.self.view_is ∙ is)) c.in_ok-left.left c.in_ok-left.ensures.law c.in_ok-left.ensures.size))
     c.shrink.ensures.bases

@@ -61,7 +61,7 @@ pub returns-clause-size : goal.returns-clause-size
 returns-clause-size g c =
     let rows = c.in_ok-new.ensures ∙ ap on_all_days c.in_ok-copy_rows.ensures in
     on_ok_weaker c.extend.result (λ e.
-    subst (λ db. AreWithin (sizes_at db) (name_sizes_after (sizes_at c.args.self.now.bases) (typed.Insert c.args.name.now c.args.rows.now))) (sym e)
+    subst (λ db. AreWithin (sizes_at db) (name_sizes_after (sizes_at c.args.self.now.bases) (typed.Insert c.args.name.now c.args.rows.now, tt))) (sym e)
     (within-made_everywhere c.args.name.now length (instead (λ _. false) c.in_ok-new.new) (λ n. n + length c.args.rows.now) c.args.self.now.bases
     (λ rel. subst (λ all. length all ≤ length rel + length c.args.rows.now) (sym (instead-none c.in_ok-new.new rel ∙ ap (λ more. rel ++ more) rows)) (length-inserted rel c.args.rows.now))))
     c.extend.ensures.bases
