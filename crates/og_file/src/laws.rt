@@ -112,8 +112,8 @@ pub fn a_saved_file_is_no_table_file()
         → IsVersionTwo bytes saved pairs count → IsTableFault columns bytes FileRefusal.Header }
 {}
 
-/// The same of version 1; and a table file is no saved file of either version. Each is refused with the fault
-/// of a header, where the names of the columns are words.
+/// A saved file of version 1 is no table file either, and a table file is no saved file of either version, where
+/// the names of the columns are words. Each is refused with the fault of a header.
 pub fn no_table_file_is_a_saved_file()
     ensures one { (bytes : List ℕ) (columns saved : List Column) (pairs : List Pair) (count : ℕ) → All (λ c. IsLowerWord c.name) columns
         → IsVersionOne bytes saved pairs count → IsTableFault columns bytes FileRefusal.Header }
