@@ -34,4 +34,5 @@ mod sizes;
 mod used;
 mod view;
 
+pub use used::uses;
 pub use view::View;

@@ -36,8 +36,8 @@ fn rest_uses(rests: &[Rest], name: &Name) -> bool
     rests.iter().any(|rest| core_uses(&rest.core, name))
 }
 
-// Whether the query names the table.
-pub(crate) fn uses(query: &Query, name: &Name) -> bool
+/// Whether the query names the table, in FROM or in an EXISTS or NOT EXISTS.
+pub fn uses(query: &Query, name: &Name) -> bool
     ensures { result ≡ live.uses query.now name.now }
 {
     core_uses(&query.first, name) || rest_uses(query.rest.as_slice(), name)
