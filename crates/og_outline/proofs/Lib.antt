@@ -1,0 +1,5 @@
+pub mod DropLemmas
+pub mod EntryLemmas
+pub mod FileLemmas
+pub mod OutlineLemmas
+pub mod StatementLemmas
