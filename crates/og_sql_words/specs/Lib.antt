@@ -1,0 +1,3 @@
+-- What the words of `ongq-sql` mean.
+pub mod Asked
+pub mod Shape
