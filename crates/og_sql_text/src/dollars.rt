@@ -1,0 +1,61 @@
+//! Texts between dollars, in which nothing is written otherwise than alone.
+
+use crate::sql::Sql;
+use og_base::NoMemory;
+
+/// Appends a text between the word in dollars. Where the text has these, the word has underscores behind it, more than
+/// stand anywhere in the text.
+pub fn put_dollars(word: &str, text: &[u8], out: &mut Sql) -> Result<(), NoMemory> {
+    let marks = if has_dollars(word.as_bytes(), text) {
+        underscores_in(text).saturating_add(1)
+    } else {
+        0
+    };
+    put_tag(word, marks, out)?;
+    out.put_bytes(text)?;
+    put_tag(word, marks, out)
+}
+
+// Appends the word and that number of underscores, in dollars.
+fn put_tag(word: &str, marks: usize, out: &mut Sql) -> Result<(), NoMemory> {
+    out.put("$")?;
+    out.put(word)?;
+    'marks: for _ in 0..marks {
+        out.put("_")?;
+    }
+    out.put("$")
+}
+
+// Whether the text has the word in dollars.
+fn has_dollars(word: &[u8], text: &[u8]) -> bool {
+    let mut found = 0;
+    'bytes: for b in text {
+        if found == word.len().saturating_add(1) && *b == b'$' {
+            return true;
+        }
+        found = found_with(word, found, *b);
+    }
+    false
+}
+
+// How many bytes of a dollar and the word are the last of a text, where so many were before its last byte.
+fn found_with(word: &[u8], found: usize, b: u8) -> usize {
+    if b == b'$' {
+        return 1;
+    }
+    if found > 0 && word.get(found - 1) == Some(&b) {
+        return found.saturating_add(1);
+    }
+    0
+}
+
+// The most underscores in a row.
+fn underscores_in(text: &[u8]) -> usize {
+    let mut most = 0usize;
+    let mut row = 0usize;
+    'bytes: for b in text {
+        row = if *b == b'_' { row.saturating_add(1) } else { 0 };
+        most = most.max(row);
+    }
+    most
+}
