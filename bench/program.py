@@ -9,10 +9,8 @@ ROOT = pathlib.Path(__file__).resolve().parent.parent
 
 def program_of_sources() -> pathlib.Path:
     """That of dist/ where it was built from the sources as they are, else the one that ./ongq builds where it has to."""
-    given, sums = ROOT / "dist" / "ongq-x86_64-linux", ROOT / "dist" / "SHA256SUMS"
-    sources = subprocess.run([ROOT / "dist" / "sources"], stdout=subprocess.PIPE, text=True, check=True).stdout.strip()
-    if given.exists() and sums.exists() and f"# sources: {sources}" in sums.read_text().splitlines():
-        return given
+    if subprocess.run([ROOT / "dist" / "sources", "--is-given", "ongq"], stderr=subprocess.DEVNULL).returncode == 0:
+        return ROOT / "dist" / "ongq-x86_64-linux"
     subprocess.run([ROOT / "ongq", "run"], stdin=subprocess.DEVNULL, check=True)
     return ROOT / "crates" / "ongq" / "out" / "ongq"
 

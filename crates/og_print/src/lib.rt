@@ -17,3 +17,4 @@ mod statements;
 mod words;
 
 pub use script::print_script;
+pub use statements::write_stmt;

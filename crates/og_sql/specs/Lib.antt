@@ -1,0 +1,4 @@
+pub mod Comments
+pub mod Ends
+pub mod Head
+pub mod Translations

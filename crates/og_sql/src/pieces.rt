@@ -1,0 +1,118 @@
+//! The SQL of the statements of a script, one after the other.
+ghost use Rattle.std.specs.Prelude.{◌≡◌, ◌++◌, ◌∷◌, [], ℕ, List, Some, IfOk, OnOk, OnErr, reverse};
+ghost use Rattle.og_faults.specs.Counts.{IsFaultCount, is_file_fault};
+ghost use Rattle.og_io.specs.Folders.{Folder};
+ghost use Rattle.og_syntax.specs.declared.tree.Stmt.{Stmt};
+ghost use Rattle.og_db.specs.Effects.{Effect};
+ghost use Rattle.og_session.specs.Contents.{AreContents, Contents, outcome};
+ghost use Rattle.og_session.specs.Runs.{run_from};
+ghost use Rattle.og_sql.specs.Comments.{comment_above};
+ghost use Rattle.og_sql.specs.Ends.{run_end};
+ghost use Rattle.og_sql.specs.Translations.{AreAtStart, IsCarried, IsHeldAt, IsStatementEnd, IsUnder, StepEnds};
+
+use crate::reads::FilesRead;
+use crate::step::sql_of;
+use crate::stop::SqlStop;
+use og_base::NoMemory;
+use og_io::Files;
+use og_outline::{Outline, no_outline};
+use og_print::write_stmt;
+use og_script::turned;
+use og_sql_text::Sql;
+use og_sql_words::Target;
+use og_syntax::Stmt;
+use sqlite_items::Items;
+use std::alloc::Global;
+
+/// Appends a piece for each statement, up to the first with a fault or with a value that PostgreSQL cannot hold.
+pub fn put_pieces<F: Files>(
+    alloc: Global,
+    target: &Target,
+    stmts: Items<Stmt>,
+    files: &mut F,
+    outline: &mut Outline,
+    text: &mut Sql,
+) -> Result<(), SqlStop>
+    requires no_text { text.old ≡ [] }
+    requires no_names { outline.old ≡ record { names = []; files = [] } }
+    ensures carried { (start : Folder) (contents : Contents) → F.folder files.old ≡ Some start → AreContents start contents → IsCarried stmts (run_from contents 1 [] stmts) result text.new }
+    ensures stops { IsStatementEnd result }
+    ensures files { IsFaultCount (is_file_fault (run_end result)) (F.faults files.old) (F.faults files.new) }
+{
+    no_outline();
+    let read = FilesRead::of(alloc, stmts.as_slice())?;
+    let mut left = turned(alloc, stmts)?;
+    'stmts: for place in 0..left.len() {
+        let number = place + 1;
+        put_piece(
+            alloc, target, number, &mut left, &read, files, outline, text,
+        )?;
+    }
+    Ok(())
+}
+
+// Takes the last of the statements that are left, in turned order, which has that number, counted from 1, and appends
+// its SQL under its text.
+fn put_piece<F: Files>(
+    alloc: Global,
+    target: &Target,
+    number: usize,
+    left: &mut Vec<Stmt>,
+    read: &FilesRead,
+    files: &mut F,
+    outline: &mut Outline,
+    text: &mut Sql,
+) -> Result<(), SqlStop>
+    requires next { (stmt : Stmt) × (rest : List Stmt) × (reverse left.old.items ≡ stmt ∷ rest) }
+    ensures ends { (stmt : Stmt) (rest : List Stmt) → reverse left.old.items ≡ stmt ∷ rest → (start : Folder) (contents : Contents) (before : List Effect) →
+        IsHeldAt start contents before outline.old (F.folder files.old) → StepEnds number before (outcome contents before stmt) outline.new result }
+    ensures under { (stmt : Stmt) (rest : List Stmt) → reverse left.old.items ≡ stmt ∷ rest → OnOk result ((piece : List ℕ) × IsUnder stmt piece × (text.new ≡ text.old ++ piece)) }
+    ensures kept { OnErr result (text.new ≡ text.old) }
+    ensures left { (stmt : Stmt) (rest : List Stmt) → reverse left.old.items ≡ stmt ∷ rest → reverse left.new.items ≡ rest }
+    ensures stops { IsStatementEnd result }
+    ensures folder { (start : Folder) → AreAtStart start (F.folder files.old) → AreAtStart start (F.folder files.new) }
+    ensures files { IsFaultCount (is_file_fault (run_end result)) (F.faults files.old) (F.faults files.new) }
+{
+    let Some(stmt) = left.pop() else {
+        unreachable!();
+    };
+    let piece = piece_of(alloc, target, number, stmt, read, files, outline)?;
+    text.put_bytes(piece.bytes())?;
+    Ok(())
+}
+
+// The SQL of a statement under its text.
+fn piece_of<F: Files>(
+    alloc: Global,
+    target: &Target,
+    number: usize,
+    stmt: Stmt,
+    read: &FilesRead,
+    files: &mut F,
+    outline: &mut Outline,
+) -> Result<Sql, SqlStop>
+    ensures ends { (start : Folder) (contents : Contents) (before : List Effect) → IsHeldAt start contents before outline.old (F.folder files.old) →
+        StepEnds number before (outcome contents before stmt) outline.new result }
+    ensures under { IfOk result (IsUnder stmt) }
+    ensures stops { IsStatementEnd result }
+    ensures folder { (start : Folder) → AreAtStart start (F.folder files.old) → AreAtStart start (F.folder files.new) }
+    ensures files { IsFaultCount (is_file_fault (run_end result)) (F.faults files.old) (F.faults files.new) }
+{
+    let mut piece = commented(alloc, &stmt)?;
+    let sql = sql_of(alloc, target, number, stmt, read, files, outline)?;
+    piece.put_bytes(sql.bytes())?;
+    Ok(piece)
+}
+
+// The text of a statement as a comment.
+fn commented(alloc: Global, stmt: &Stmt) -> Result<Sql, NoMemory>
+    ensures { IfOk result (λ text. text ≡ comment_above stmt.now) }
+{
+    let mut line = Vec::new(alloc);
+    write_stmt(alloc, stmt, &mut line)?;
+    let (words, _) = line.as_slice().split_at(line.len().saturating_sub(1));
+    let mut text = Sql::new(alloc);
+    text.put("\n")?;
+    text.comment(words)?;
+    Ok(text)
+}
