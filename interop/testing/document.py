@@ -55,7 +55,9 @@ def try_document(test: Any) -> None:
     with open(f"{answers.TOP}/docs/INTEROP.md", encoding="utf-8") as file:
         blocks = BLOCK.findall(file.read())
     with tempfile.TemporaryDirectory() as folder, inside(folder, test.program):
-        for name, path in (("ongq", test.program), ("interop", answers.INTEROP), ("examples", f"{answers.TOP}/examples")):
+        built, given = f"{answers.TOP}/crates/ongq_sql/out/ongq_sql", f"{answers.TOP}/dist/ongq-sql-x86_64-linux"
+        for name, path in (("ongq", test.program), ("ongq-sql", built if os.access(built, os.X_OK) else given),
+                           ("interop", answers.INTEROP), ("examples", f"{answers.TOP}/examples")):
             os.symlink(path, name)
         names: dict[str, Any] = {}
         for kind, text in blocks:

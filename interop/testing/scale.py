@@ -23,6 +23,9 @@ def try_scale(test: Any) -> None:
     with open(f"{answers.TOP}/docs/SCALE.md", encoding="utf-8") as file:
         page = file.read()
     blocks = dict(re.findall("^```([a-z]+) by: interop/test\n(.*?)^```$", page, re.MULTILINE | re.DOTALL))
+    with open(f"{answers.TOP}/examples/patches.sql", encoding="utf-8") as file:
+        comment, part = blocks["part"].split("\n", 1)
+        test.same("blocks of docs/SCALE.md", comment, True, part in file.read())
     day = "2020-06-01"
     printed = answers.run(test.program, test.folder, f"{TABLES}PRINT hits AS OF DATE '{day}';")
     for script in (blocks["ongq"], f"OPEN r FROM 'hits.csv'; VALID r AS OF DATE '{day}';"):
