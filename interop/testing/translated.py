@@ -231,13 +231,27 @@ def nodes(plan: dict) -> Iterator[dict]:
         yield from nodes(below)
 
 
+EQUAL = re.compile(r" = ('(?:[^']|'')*'::[a-z]+)|('(?:[^']|'')*'::[a-z]+) = ")
+
+
+def constants(plan: dict) -> set[str]:
+    """The constants that the conditions of a plan's nodes compare with by =."""
+    conditions = (node.get(word, "") for node in nodes(plan) for word in ("Filter", "Index Cond", "Hash Cond", "Join Filter"))
+    return {left or right for condition in conditions for left, right in EQUAL.findall(condition)}
+
+
 def products(plan: dict) -> list[str]:
-    """The nested loops of a plan in which no row of the inner side is found by an index."""
+    """The nested loops of a plan in which no row of the inner side is found by an index.
+
+    Where a key of a join is equal to a constant, PostgreSQL asks both sides for that constant, and joins what they have without
+    the key: these are the rows of one key, and no product.
+    """
     found = []
     for node in nodes(plan):
         if node["Node Type"] == "Nested Loop":
-            inner = [below for below in node["Plans"] if below.get("Parent Relationship") == "Inner"]
-            if not any("Index Cond" in below for side in inner for below in nodes(side)):
+            outer, inner = node["Plans"]
+            is_of_one_key = "&&" not in node.get("Join Filter", "") and constants(outer) & constants(inner)
+            if not is_of_one_key and not any("Index Cond" in below for below in nodes(inner)):
                 found.append(f"{node.get('Join Filter', 'no condition')}: {[below['Node Type'] for below in nodes(node)]}")
     return found
 
