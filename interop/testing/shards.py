@@ -194,38 +194,67 @@ def write_rows(path: str, count: int, seed: int) -> None:
             file.write(f'{number},k{rolls.randrange(count)},"[{day(first)},{end})"\n')
 
 
+def processes_of(one: server.Server) -> list[str]:
+    """The numbers of a server's processes, its first one first."""
+    with open(f"{one.folder}/data/postmaster.pid", encoding="ascii") as file:
+        first = file.readline().strip()
+    return [first, *subprocess.run(["ps", "-o", "pid=", "--ppid", first], capture_output=True, text=True).stdout.split()]
+
+
 def seconds_of(one: server.Server) -> float:
     """The processor time that a server has needed, with all of its processes that ended."""
-    with open(f"{one.folder}/data/postmaster.pid", encoding="ascii") as file:
-        pids = [file.readline().strip()]
-    pids += subprocess.run(["ps", "-o", "pid=", "--ppid", pids[0]], capture_output=True, text=True).stdout.split()
     ticks = 0
-    for at, pid in enumerate(pids):
+    for at, pid in enumerate(processes_of(one)):
         with contextlib.suppress(FileNotFoundError), open(f"/proc/{pid}/stat", encoding="utf-8") as file:
             fields = file.read().rsplit(")", 1)[1].split()
             ticks += sum(map(int, fields[11:15] if at == 0 else fields[11:13]))
     return ticks / os.sysconf("SC_CLK_TCK")
 
 
-def timed(program: str, words: list[str], folder: str, coordinator: server.Server, servers: list[server.Server], word: str) -> bytes:
-    """Carries the script out, and prints the time of KEEP, by the clock and by the processors of each server."""
-    sql = subprocess.run([program, *words], input=PACE.encode(), capture_output=True, cwd=folder).stdout
-    loading, keeping, printing = re.split(rb"(?m)^(?=-- KEEP|-- PRINT)", sql)
-    head = loading[:loading.index(b"\n-- ")] + b"\n"
-    run = lambda part: subprocess.run(["psql", "-X", "-q", "-v", "ON_ERROR_STOP=1"], input=part, capture_output=True, check=True, cwd=folder, env=coordinator.environment()).stdout  # noqa: E731
-    began = time.time()
-    run(loading)
-    print(f"{word}: loaded in {time.time() - began:.1f} s", flush=True)
-    for _ in range(3):
-        before = [seconds_of(one) for one in servers]
+def give_processors(one: server.Server, processors: set[int]) -> None:
+    """Lets the server, and each process that it begins from now on, have these processors alone."""
+    for pid in processes_of(one):
+        with contextlib.suppress(ProcessLookupError):
+            os.sched_setaffinity(int(pid), processors)
+
+
+class Paced:
+    """The key join, as it is kept by some servers. The SQL is that of the program for these words."""
+
+    def __init__(self, program: str, words: list[str], folder: str, word: str, servers: list[server.Server]) -> None:
+        self.words, self.folder, self.word, self.servers = words, folder, word, servers
+        sql = subprocess.run([program, *words], input=PACE.encode(), capture_output=True, cwd=folder).stdout
+        loading, self.keeping, self.printing = re.split(rb"(?m)^(?=-- KEEP|-- PRINT)", sql)
+        self.head = loading[:loading.index(b"\n-- ")] + b"\n"
         began = time.time()
-        run(head + keeping)
-        took = time.time() - began
-        needed = [seconds_of(one) - was for one, was in zip(servers, before)]
-        print(f"{word}: KEEP {took:.2f} s; of the processors of each server {', '.join(f'{one:.2f}' for one in needed)} s; load {os.getloadavg()[0]:.1f}", flush=True)
-        out = run(head + printing)
-        run(head + (b"CALL shards.drop('pairs');" if words else b"DROP TABLE pairs;"))
-    return out
+        self.run(loading)
+        print(f"{word}: loaded in {time.time() - began:.1f} s", flush=True)
+
+    def run(self, sql: bytes) -> bytes:
+        return subprocess.run(["psql", "-X", "-q", "-v", "ON_ERROR_STOP=1"], input=sql, capture_output=True, check=True, cwd=self.folder,
+                              env=self.servers[0].environment()).stdout
+
+    def timed(self, each: str) -> bytes:
+        """Keeps the join three times, and prints the time by the clock and by the processors of each server."""
+        for _ in range(3):
+            before = [seconds_of(one) for one in self.servers]
+            began = time.time()
+            self.run(self.head + self.keeping)
+            took = time.time() - began
+            needed = [seconds_of(one) - was for one, was in zip(self.servers, before)]
+            print(f"{self.word}, {each}: KEEP {took:.2f} s; of the processors of each server {', '.join(f'{one:.2f}' for one in needed)} s; "
+                  f"load {os.getloadavg()[0]:.1f}", flush=True)
+            out = self.run(self.head + self.printing)
+            self.run(self.head + (b"CALL shards.drop('pairs');" if self.words else b"DROP TABLE pairs;"))
+        return out
+
+    def both(self) -> bytes:
+        """With all processors for each server; and with one for each, as if each were a machine of one."""
+        out = self.timed("all processors for each")
+        here = sorted(os.sched_getaffinity(0))
+        for at, one in enumerate(self.servers):
+            give_processors(one, {here[at % len(here)]})
+        return out if out == self.timed("a processor for each") else b""
 
 
 def pace(program: str, programs: str, count: int) -> bool:
@@ -238,9 +267,9 @@ def pace(program: str, programs: str, count: int) -> bool:
         print(f"ongq: the whole run {time.time() - began:.2f} s, {os.cpu_count()} processors", flush=True)
         with server.Server(programs, True) as alone:
             alone.ask("CREATE EXTENSION ongoing")
-            one = timed(program, [], folder, alone, [alone], "one server")
+            one = Paced(program, [], folder, "one server", [alone]).both()
         with started(programs) as servers:
-            three = timed(program, WORDS, folder, servers[0], servers, "three servers")
+            three = Paced(program, WORDS, folder, "three servers", servers).both()
     print("the same output" if wanted == one == three else "OTHER OUTPUT")
     return wanted == one == three
 
