@@ -19,166 +19,148 @@ use og_value::{Catalog, Name, Schema};
 use std::alloc::Global;
 
 /// Appends the CREATE TABLE of a name.
-pub fn put_create(way: Way, name: &Name, schema: &Schema, out: &mut Sql) -> Result<(), NoMemory> {
+pub fn put_create(way: Way, name: &Name, schema: &Schema, out: &mut Sql) {
     if let Way::Shards(key) = way {
         return put_make(name, schema, key, out);
     }
-    let columns = Columns::of(out.alloc(), schema)?;
-    out.put("CREATE TABLE ")?;
-    put_table(name, out)?;
-    out.put(" (")?;
-    columns.put_types(out)?;
-    out.put(");\n")?;
+    let columns = Columns::of(schema, out);
+    out.put("CREATE TABLE ");
+    put_table(name, out);
+    out.put(" (");
+    columns.put_types(out);
+    out.put(");\n");
     match way {
         Way::Citus(key) => put_distribute(name, schema, key, out),
-        _ => Ok(()),
+        _ => {}
     }
 }
 
 /// Appends what keeps the rows of a SELECT.
-pub fn put_selected(
-    way: Way,
-    name: &Name,
-    schema: &Schema,
-    select: &Sql,
-    out: &mut Sql,
-) -> Result<(), NoMemory> {
+pub fn put_selected(way: Way, name: &Name, schema: &Schema, select: &Sql, out: &mut Sql) {
     match way {
         Way::Here | Way::Citus(None) => {
-            out.put("CREATE TABLE ")?;
-            put_table(name, out)?;
-            out.put(" AS\n")?;
+            out.put("CREATE TABLE ");
+            put_table(name, out);
+            out.put(" AS\n");
         }
         Way::Shards(_) | Way::Citus(Some(_)) => {
-            put_create(way, name, schema, out)?;
-            out.put("INSERT INTO ")?;
-            put_table(name, out)?;
-            out.put("\n")?;
+            put_create(way, name, schema, out);
+            out.put("INSERT INTO ");
+            put_table(name, out);
+            out.put("\n");
         }
     }
-    out.put_bytes(select.bytes())?;
-    out.put(";\n")?;
+    out.put_sql(select);
+    out.put(";\n");
     if let Way::Shards(_) = way {
         return put_count(name, out);
     }
-    out.put("ANALYZE ")?;
-    put_table(name, out)?;
+    out.put("ANALYZE ");
+    put_table(name, out);
     out.put(";\n")
 }
 
 /// Appends what keeps the rows of a query: each node its part, where the answer has what that is spread by.
-pub fn put_kept(
-    target: &Target,
-    name: &Name,
-    query: &Query,
-    outline: &Outline,
-    out: &mut Sql,
-) -> Result<(), NoMemory>
+pub fn put_kept(target: &Target, name: &Name, query: &Query, outline: &Outline, out: &mut Sql)
     requires fits { (schemas : Schemas) × IsFitQuery schemas query.now }
 {
     let schema = &query.first.schema;
     let way = Way::of(target, schema);
-    let part = put_before(target, query, outline, out)?;
+    let part = put_before(target, query, outline, out);
     if part.at != At::Nodes {
-        let select = kept_text(way, query, out.alloc())?;
+        let select = kept_text(way, query, out.alloc());
         return put_selected(way, name, schema, &select, out);
     }
-    let select = query_text(query, out.alloc())?;
+    let select = query_text(query, out.alloc());
     match way {
         Way::Shards(key) if part.has(key) => put_keep(name, schema, key, &select, out),
         _ => {
-            put_ask(Asked::Once, schema, &select, out)?;
-            let merged = merged_text(Asked::Once, schema, out.alloc())?;
-            put_selected(way, name, schema, &merged, out)?;
+            put_ask(Asked::Once, schema, &select, out);
+            let merged = merged_text(Asked::Once, schema, out.alloc());
+            put_selected(way, name, schema, &merged, out);
             put_forget(Asked::Once, out)
         }
     }
 }
 
 /// Appends what gives a query a name.
-pub fn put_live(
-    target: &Target,
-    name: &Name,
-    query: &Query,
-    outline: &Outline,
-    out: &mut Sql,
-) -> Result<(), NoMemory>
+pub fn put_live(target: &Target, name: &Name, query: &Query, outline: &Outline, out: &mut Sql)
     requires fits { (schemas : Schemas) × IsFitQuery schemas query.now }
 {
     if is_live_table(target) {
         return put_live_table(name, query, out);
     }
     let schema = &query.first.schema;
-    let part = put_before(target, query, outline, out)?;
-    let mut select = query_text(query, out.alloc())?;
+    let part = put_before(target, query, outline, out);
+    let mut select = query_text(query, out.alloc());
     if part.at == At::Nodes {
-        put_ask(Asked::Live(name), schema, &select, out)?;
-        select = merged_text(Asked::Live(name), schema, out.alloc())?;
+        put_ask(Asked::Live(name), schema, &select, out);
+        select = merged_text(Asked::Live(name), schema, out.alloc());
     }
-    out.put("CREATE VIEW ")?;
-    put_table(name, out)?;
-    out.put(" AS\n")?;
-    out.put_bytes(select.bytes())?;
+    out.put("CREATE VIEW ");
+    put_table(name, out);
+    out.put(" AS\n");
+    out.put_sql(&select);
     out.put(";\n")
 }
 
 /// Appends the SELECTs that print the rows of a query on the day.
-pub fn put_printed(
-    target: &Target,
-    query: &Query,
-    day: RefDay,
-    outline: &Outline,
-    out: &mut Sql,
-) -> Result<(), NoMemory>
+pub fn put_printed(target: &Target, query: &Query, day: RefDay, outline: &Outline, out: &mut Sql)
     requires fits { (schemas : Schemas) × IsFitQuery schemas query.now }
 {
     let schema = &query.first.schema;
-    let part = put_before(target, query, outline, out)?;
+    let part = put_before(target, query, outline, out);
     if part.at != At::Nodes {
         return put_print_query(query, day, out);
     }
-    let select = query_text(query, out.alloc())?;
-    put_ask(Asked::Once, schema, &select, out)?;
-    put_print_asked(schema, day, out)?;
+    let select = query_text(query, out.alloc());
+    put_ask(Asked::Once, schema, &select, out);
+    put_print_asked(schema, day, out);
     put_forget(Asked::Once, out)
 }
 
 // Appends what stands before a query that is not made on the nodes: why it is not, or indexes. Gives where it is made. What Citus
 // is asked is made where Citus wants it, and tables without the column are on all of its nodes.
-fn put_before(
-    target: &Target,
-    query: &Query,
-    outline: &Outline,
-    out: &mut Sql,
-) -> Result<Part, NoMemory>
+fn put_before(target: &Target, query: &Query, outline: &Outline, out: &mut Sql) -> Part
     requires fits { (schemas : Schemas) × IsFitQuery schemas query.now }
 {
     match &target.spread {
         Spread::One => {
-            put_indexes(query, outline, out)?;
-            Ok(Part::here(out.alloc()))
+            put_indexes(query, outline, out);
+            Part::here(out.alloc())
         }
         Spread::Shards(column) => {
-            let part = part_of_query(column, query, outline, out.alloc())?;
-            put_why(part.at, column, out)?;
+            let part = part_of_query(column, query, outline, out);
+            put_why(part.at, column, out);
             if part.at == At::Here {
-                put_indexes(query, outline, out)?;
+                put_indexes(query, outline, out);
             }
-            Ok(part)
+            part
         }
         Spread::Citus(column) => {
-            let part = part_of_query(column, query, outline, out.alloc())?;
+            let part = part_of_query(column, query, outline, out);
             if part.at != At::Sent(Why::Mixed) {
-                put_why(part.at, column, out)?;
+                put_why(part.at, column, out);
             }
-            put_indexes(query, outline, out)?;
-            Ok(Part::here(out.alloc()))
+            put_indexes(query, outline, out);
+            Part::here(out.alloc())
         }
     }
 }
 
 // Where a query is made over tables that are spread by the column.
-fn part_of_query(
+fn part_of_query(column: &Name, query: &Query, outline: &Outline, out: &mut Sql) -> Part
+    requires fits { (schemas : Schemas) × IsFitQuery schemas query.now }
+{
+    let part = planned_part(column, query, outline, out.alloc());
+    match out.made(part) {
+        Some(part) => part,
+        None => Part::here(out.alloc()),
+    }
+}
+
+// The same, by its plan.
+fn planned_part(
     column: &Name,
     query: &Query,
     outline: &Outline,
@@ -194,44 +176,42 @@ fn part_of_query(
 }
 
 // The SELECT of a query.
-fn query_text(query: &Query, alloc: Global) -> Result<Sql, NoMemory>
+fn query_text(query: &Query, alloc: Global) -> Sql
     requires fits { (schemas : Schemas) × IsFitQuery schemas query.now }
 {
     let mut text = Sql::new(alloc);
-    put_query(query, &mut text)?;
-    Ok(text)
+    put_query(query, &mut text);
+    text
 }
 
 // The SELECT of a query whose rows are kept: a table on one server has them in rising order, as ongq mostly has.
-fn kept_text(way: Way, query: &Query, alloc: Global) -> Result<Sql, NoMemory>
+fn kept_text(way: Way, query: &Query, alloc: Global) -> Sql
     requires fits { (schemas : Schemas) × IsFitQuery schemas query.now }
 {
     let mut text = Sql::new(alloc);
     if way == Way::Here {
-        put_ordered_query(query, &mut text)?;
+        put_ordered_query(query, &mut text);
     } else {
-        put_query(query, &mut text)?;
+        put_query(query, &mut text);
     }
-    Ok(text)
+    text
 }
 
 // The SELECT of what the nodes answer.
-fn merged_text(asked: Asked<'_>, schema: &Schema, alloc: Global) -> Result<Sql, NoMemory> {
+fn merged_text(asked: Asked<'_>, schema: &Schema, alloc: Global) -> Sql {
     let mut text = Sql::new(alloc);
-    put_merged(asked, schema, &mut text)?;
-    Ok(text)
+    put_merged(asked, schema, &mut text);
+    text
 }
 
 /// Appends what takes a name out, and before it what keeps the rows of the live results whose query names it.
-pub fn put_drop(
-    target: &Target,
-    name: &Name,
-    outline: &Outline,
-    out: &mut Sql,
-) -> Result<(), NoMemory> {
-    let ending = outline.ending(name)?;
+pub fn put_drop(target: &Target, name: &Name, outline: &Outline, out: &mut Sql) {
+    let ending = outline.ending(name);
+    let Some(ending) = out.made(ending) else {
+        return;
+    };
     'ending: for live in ending.as_slice() {
-        put_settled(target, live, outline, out)?;
+        put_settled(target, live, outline, out);
     }
     if outline.is_live(name) {
         return put_ended(target, name, out);
@@ -241,8 +221,8 @@ pub fn put_drop(
             return put_gone(name, out);
         }
     }
-    out.put("DROP TABLE ")?;
-    put_table(name, out)?;
+    out.put("DROP TABLE ");
+    put_table(name, out);
     out.put(";\n")
 }
 
@@ -255,54 +235,48 @@ fn is_live_table(target: &Target) -> bool {
 }
 
 // Appends what takes a live result out.
-fn put_ended(target: &Target, name: &Name, out: &mut Sql) -> Result<(), NoMemory> {
+fn put_ended(target: &Target, name: &Name, out: &mut Sql) {
     if is_live_table(target) {
-        put_live_end(name, out)?;
-        out.put("DROP TABLE ")?;
-        put_table(name, out)?;
+        put_live_end(name, out);
+        out.put("DROP TABLE ");
+        put_table(name, out);
         return out.put(";\n");
     }
-    out.put("DROP VIEW ")?;
-    put_table(name, out)?;
-    out.put(";\n")?;
+    out.put("DROP VIEW ");
+    put_table(name, out);
+    out.put(";\n");
     match &target.spread {
         Spread::Shards(_) => put_forget(Asked::Live(name), out),
-        _ => Ok(()),
+        _ => {}
     }
 }
 
 // Appends what makes a live result a table that nothing changes.
-fn put_settled(
-    target: &Target,
-    name: &Name,
-    outline: &Outline,
-    out: &mut Sql,
-) -> Result<(), NoMemory> {
+fn put_settled(target: &Target, name: &Name, outline: &Outline, out: &mut Sql) {
     if is_live_table(target) {
         return put_live_end(name, out);
     }
-    out.put("CREATE TABLE settled$ AS SELECT * FROM ")?;
-    put_table(name, out)?;
-    out.put(";\n")?;
-    put_ended(target, name, out)?;
+    out.put("CREATE TABLE settled$ AS SELECT * FROM ");
+    put_table(name, out);
+    out.put(";\n");
+    put_ended(target, name, out);
     if let Some(schema) = outline.schema(name) {
         return put_settled_rows(Way::of(target, schema), name, schema, out);
     }
-    Ok(())
 }
 
 // Appends what gives the rows that were a view's its name.
-fn put_settled_rows(way: Way, name: &Name, schema: &Schema, out: &mut Sql) -> Result<(), NoMemory> {
+fn put_settled_rows(way: Way, name: &Name, schema: &Schema, out: &mut Sql) {
     match way {
         Way::Here | Way::Citus(None) => {
-            out.put("ALTER TABLE settled$ RENAME TO ")?;
-            put_table(name, out)?;
+            out.put("ALTER TABLE settled$ RENAME TO ");
+            put_table(name, out);
             out.put(";\n")
         }
         Way::Shards(_) | Way::Citus(Some(_)) => {
             let mut select = Sql::new(out.alloc());
-            select.put("SELECT * FROM settled$")?;
-            put_selected(way, name, schema, &select, out)?;
+            select.put("SELECT * FROM settled$");
+            put_selected(way, name, schema, &select, out);
             out.put("DROP TABLE settled$;\n")
         }
     }

@@ -14,14 +14,10 @@ use og_sql_rows::{Way, put_delete, put_insert, put_update, put_valid};
 use og_sql_text::Sql;
 use og_sql_words::{ExplainForm, Target};
 use og_value::{Catalog, Name, Schema};
+use std::alloc::Global;
 
-/// Appends the SQL of a statement that acts on names alone, over the names before it. Refused only for want of memory.
-pub fn put_statement(
-    target: &Target,
-    typed: &Typed,
-    outline: &Outline,
-    out: &mut Sql,
-) -> Result<(), NoMemory>
+/// Appends the SQL of a statement that acts on names alone, over the names before it.
+pub fn put_statement(target: &Target, typed: &Typed, outline: &Outline, out: &mut Sql)
     requires fits { IsFit (known_of outline.now.names) typed.now }
 {
     match typed {
@@ -63,12 +59,7 @@ fn columns_of<'a>(outline: &'a Outline, name: &Name) -> &'a Schema
 }
 
 // Appends the SQL of a statement that only prints.
-fn put_asked(
-    target: &Target,
-    typed: &Typed,
-    outline: &Outline,
-    out: &mut Sql,
-) -> Result<(), NoMemory>
+fn put_asked(target: &Target, typed: &Typed, outline: &Outline, out: &mut Sql)
     requires fits { IsFit (known_of outline.now.names) typed.now }
 {
     match typed {
@@ -79,35 +70,52 @@ fn put_asked(
         }
         Typed::PrintQuery { query, day } => put_printed(target, query, *day, outline, out),
         Typed::Valid { name, day } => put_valid(name, columns_of(outline, name), *day, out),
-        _ => Ok(()),
+        _ => {}
     }
 }
 
 // Appends the SELECT of the names.
-fn put_names(outline: &Outline, out: &mut Sql) -> Result<(), NoMemory> {
+fn put_names(outline: &Outline, out: &mut Sql) {
+    let text = names_of(outline, out.alloc());
+    if let Some(text) = out.made(text) {
+        put_text(text.as_slice(), out);
+    }
+}
+
+// The text of the names.
+fn names_of(outline: &Outline, alloc: Global) -> Result<Vec<u8>, NoMemory> {
     let db = outline.to_db()?;
-    put_text(names_text(out.alloc(), &db)?.as_slice(), out)
+    names_text(alloc, &db)
 }
 
 // Appends the SELECT of a text that is known.
-fn put_text(text: &[u8], out: &mut Sql) -> Result<(), NoMemory> {
+fn put_text(text: &[u8], out: &mut Sql) {
     let (text, _) = text.split_at(text.len().saturating_sub(1));
-    out.put("SELECT ")?;
-    out.quoted(text)?;
+    out.put("SELECT ");
+    out.quoted(text);
     out.put(";\n")
 }
 
 // Appends the SELECT of the text of a plan, or what asks PostgreSQL for its own.
-fn put_explain(target: &Target, query: &Query, out: &mut Sql) -> Result<(), NoMemory>
+fn put_explain(target: &Target, query: &Query, out: &mut Sql)
+    requires fits { (schemas : Schemas) × IsFitQuery schemas query.now }
+{
+    if target.explain == ExplainForm::PostgreSql {
+        out.put("EXPLAIN\n");
+        put_query(query, out);
+        return out.put(";\n");
+    }
+    let text = plan_text(query, out.alloc());
+    if let Some(text) = out.made(text) {
+        put_text(text.as_slice(), out);
+    }
+}
+
+// The text of the plan.
+fn plan_text(query: &Query, alloc: Global) -> Result<Vec<u8>, NoMemory>
     requires fits { (schemas : Schemas) × IsFitQuery schemas query.now }
 {
     fitting_queries();
-    if target.explain == ExplainForm::PostgreSql {
-        out.put("EXPLAIN\n")?;
-        put_query(query, out)?;
-        return out.put(";\n");
-    }
-    let plan = plan_of(out.alloc(), query)?;
-    let text = explain(out.alloc(), &plan)?;
-    put_text(text.as_slice(), out)
+    let plan = plan_of(alloc, query)?;
+    explain(alloc, &plan)
 }

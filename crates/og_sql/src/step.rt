@@ -26,19 +26,28 @@ use og_sql_words::Target;
 use og_syntax::Stmt;
 use std::alloc::Global;
 
-/// The SQL of the statement with that number, counted from 1, and the outline after it. Nothing is made of a statement with
+/// What the SQL of a statement depends on beside the names and the files.
+#[derive(Clone, Copy)]
+pub struct Context<'a> {
+    /// What SQL is asked for.
+    pub target: &'a Target,
+    /// The files that statements of the script read.
+    pub read: &'a FilesRead,
+    /// The number of the statement, counted from 1.
+    pub number: usize,
+}
+
+/// The SQL of a statement, and the outline after it. Nothing is made of a statement with
 /// a fault, or with a value that PostgreSQL cannot hold.
 pub fn sql_of<F: Files>(
     alloc: Global,
-    target: &Target,
-    number: usize,
+    context: Context<'_>,
     stmt: Stmt,
-    read: &FilesRead,
     files: &mut F,
     outline: &mut Outline,
 ) -> Result<Sql, SqlStop>
     ensures ends { (start : Folder) (contents : Contents) (before : List Effect) → IsHeldAt start contents before outline.old (F.folder files.old) →
-        StepEnds number before (outcome contents before stmt) outline.new result }
+        StepEnds context.entry.number before (outcome contents before stmt) outline.new result }
     ensures stops { IsStatementEnd result }
     ensures folder { (start : Folder) → AreAtStart start (F.folder files.old) → AreAtStart start (F.folder files.new) }
     ensures files { IsFaultCount (is_file_fault (run_end result)) (F.faults files.old) (F.faults files.new) }
@@ -46,24 +55,22 @@ pub fn sql_of<F: Files>(
     checked_fits();
     known_outline();
     match check_owned(alloc, stmt, &*outline) {
-        Ok(typed) => sql_of_typed(alloc, target, number, typed, read, files, outline),
-        Err(refusal) => Err(SqlStop::Run(Stop::of_check(number, refusal))),
+        Ok(typed) => sql_of_typed(alloc, context, typed, files, outline),
+        Err(refusal) => Err(SqlStop::Run(Stop::of_check(context.number, refusal))),
     }
 }
 
 // The SQL of a checked statement, where PostgreSQL can hold its values.
 fn sql_of_typed<F: Files>(
     alloc: Global,
-    target: &Target,
-    number: usize,
+    context: Context<'_>,
     typed: Typed,
-    read: &FilesRead,
     files: &mut F,
     outline: &mut Outline,
 ) -> Result<Sql, SqlStop>
     requires fits { IsFit (known_of outline.old.names) typed }
     ensures ends { (start : Folder) (contents : Contents) (before : List Effect) → IsHeldAt start contents before outline.old (F.folder files.old) →
-        StepEnds number before (taken (effect_of contents before typed)) outline.new result }
+        StepEnds context.entry.number before (taken (effect_of contents before typed)) outline.new result }
     ensures stops { IsStatementEnd result }
     ensures folder { (start : Folder) → AreAtStart start (F.folder files.old) → AreAtStart start (F.folder files.new) }
     ensures files { IsFaultCount (is_file_fault (run_end result)) (F.faults files.old) (F.faults files.new) }
@@ -72,13 +79,13 @@ fn sql_of_typed<F: Files>(
         Some(what) => {
             drop(typed);
             Err(SqlStop::Outside {
-                statement: number,
+                statement: context.number,
                 what,
             })
         }
         None => {
             let mut out = Sql::new(alloc);
-            let done = put_typed(target, number, &typed, read, files, outline, &mut out);
+            let done = put_typed(context, &typed, files, outline, &mut out);
             drop(typed);
             done?;
             Ok(out)
@@ -88,10 +95,8 @@ fn sql_of_typed<F: Files>(
 
 // Appends the SQL of a checked statement, and makes the outline that after it.
 fn put_typed<F: Files>(
-    target: &Target,
-    number: usize,
+    context: Context<'_>,
     typed: &Typed,
-    read: &FilesRead,
     files: &mut F,
     outline: &mut Outline,
     out: &mut Sql,
@@ -99,18 +104,16 @@ fn put_typed<F: Files>(
     requires fits { IsFit (known_of outline.old.names) typed.now }
     requires inside { outside_statement typed.now ≡ None }
     ensures ends { (start : Folder) (contents : Contents) (before : List Effect) → IsHeldAt start contents before outline.old (F.folder files.old) →
-        StepEnds number before (taken (effect_of contents before typed.now)) outline.new result }
+        StepEnds context.entry.number before (taken (effect_of contents before typed.now)) outline.new result }
     ensures stops { IsStatementEnd result }
     ensures folder { (start : Folder) → AreAtStart start (F.folder files.old) → AreAtStart start (F.folder files.new) }
     ensures files { IsFaultCount (is_file_fault (run_end result)) (F.faults files.old) (F.faults files.new) }
 {
     match typed {
-        Typed::Save { name, file } => put_save_of(number, name, file, read, outline, out),
-        Typed::OpenFile { name, file } => put_open(target, number, name, file, files, outline, out),
-        Typed::ImportFile { name, file } => put_import(
-            target, number, name, file, files, outline, out,
-        ),
-        other => put_named(target, other, outline, out),
+        Typed::Save { name, file } => put_save_of(context, name, file, outline, out),
+        Typed::OpenFile { name, file } => put_open(context, name, file, files, outline, out),
+        Typed::ImportFile { name, file } => put_import(context, name, file, files, outline, out),
+        other => put_named(context.target, other, outline, out),
     }
 }
 
@@ -130,7 +133,7 @@ fn put_named(
 {
     one_statement_in_outline();
     outline.names_differ();
-    put_statement(target, typed, &*outline, out)?;
+    put_statement(target, typed, &*outline, out);
     outline.apply(typed)?;
     Ok(())
 }

@@ -19,7 +19,7 @@ use og_lex::{one_list_a_script, tokens_or_a_fault};
 use og_outline::Outline;
 use og_parse::{one_tree, tree_or_fault};
 use og_script::script_of;
-use og_sql_text::Sql;
+use og_sql_text::write_quoted;
 use og_sql_words::Target;
 use og_words::{Command, one_command};
 use std::alloc::Global;
@@ -72,17 +72,9 @@ pub fn translate<S: Source, K: Sink, F: Files>(
 {
     let mut script = Vec::new(alloc);
     let mut outline = Outline::new(alloc);
-    let mut text = Sql::new(alloc);
-    let done = put_script(
-        alloc,
-        target,
-        src,
-        files,
-        &mut outline,
-        &mut script,
-        &mut text,
-    );
-    let end = write_text(alloc, done, text.bytes(), out);
+    let mut text = Vec::new(alloc);
+    let done = put_script(target, src, files, &mut outline, &mut script, &mut text);
+    let end = write_text(alloc, done, text.as_slice(), out);
     let status = status_of(&end);
     Ended {
         status,
@@ -94,19 +86,18 @@ pub fn translate<S: Source, K: Sink, F: Files>(
 
 // Reads the source, and appends the pieces of its statements up to the first with a fault.
 fn put_script<S: Source, F: Files>(
-    alloc: Global,
     target: &Target,
     src: &mut S,
     files: &mut F,
     outline: &mut Outline,
     script: &mut Vec<u8>,
-    text: &mut Sql,
+    text: &mut Vec<u8>,
 ) -> Result<(), SqlStop>
     requires not_ended { S.ended src.old ≡ false }
-    requires no_text { text.old ≡ [] }
+    requires no_text { text.old.items ≡ [] }
     requires no_names { outline.old ≡ record { names = []; files = [] } }
     ensures carried { (source : List ℕ) (start : Folder) (run : Run) (stmts : List Stmt) → S.left src.old ≡ Some source → F.folder files.old ≡ Some start → IsDefinedRun run_words source start run → AreStatementsOf source stmts →
-        IsCarried stmts run result text.new }
+        IsCarried stmts run result text.new.items }
     ensures reads { IsFaultCount (is_read_fault (ends.run_end result)) (S.faults src.old) (S.faults src.new) }
     ensures files { IsFaultCount (is_file_fault (ends.run_end result)) (F.faults files.old) (F.faults files.new) }
     ensures writes { is_write_fault (ends.run_end result) ≡ false }
@@ -117,6 +108,7 @@ fn put_script<S: Source, F: Files>(
     one_tree();
     tree_or_fault();
     one_command();
+    let alloc = *text.allocator();
     let stmts = script_of(alloc, Command::Run { workers: 1 }, src, script)?;
     put_pieces(alloc, target, stmts, files, outline, text)
 }
@@ -144,7 +136,7 @@ fn write_text<K: Sink>(
             return Err(SqlStop::from(NoMemory));
         }
     };
-    if let Err(refusal) = out.put(text.bytes()) {
+    if let Err(refusal) = out.put(text.as_slice()) {
         drop(end);
         return Err(SqlStop::from(refusal));
     }
@@ -152,26 +144,26 @@ fn write_text<K: Sink>(
 }
 
 // The head, the pieces, and what asks psql for the line of the end.
-fn text_of(alloc: Global, end: &Result<(), SqlStop>, pieces: &[u8]) -> Result<Sql, NoMemory>
-    ensures { IfOk result (λ text. text ≡ head ++ pieces.now ++ told (ends.line_of end.now)) }
+fn text_of(alloc: Global, end: &Result<(), SqlStop>, pieces: &[u8]) -> Result<Vec<u8>, NoMemory>
+    ensures { IfOk result (λ text. text.items ≡ head ++ pieces.now ++ told (ends.line_of end.now)) }
 {
     let line = line_of(alloc, end)?;
-    let mut text = Sql::new(alloc);
-    text.put(HEAD)?;
-    text.put_bytes(pieces)?;
+    let mut text = Vec::from_slice(alloc, HEAD.as_bytes())?;
+    text.extend_from_slice(pieces)?;
     put_told(line.as_slice(), &mut text)?;
     Ok(text)
 }
 
 // Appends what asks psql for a line, without the line feed at its end, where there is one.
-fn put_told(line: &[u8], text: &mut Sql) -> Result<(), NoMemory>
-    ensures { OnOk result (text.new ≡ text.old ++ told line.now) }
+fn put_told(line: &[u8], text: &mut Vec<u8>) -> Result<(), NoMemory>
+    ensures { OnOk result (text.new.items ≡ text.old.items ++ told line.now) }
 {
     if line.is_empty() {
         return Ok(());
     }
     let (words, _) = line.split_at(line.len() - 1);
-    text.put("\nSELECT ")?;
-    text.quoted(words)?;
-    text.put(";\n")
+    text.extend_from_slice(b"\nSELECT ")?;
+    write_quoted(words, text)?;
+    text.extend_from_slice(b";\n")?;
+    Ok(())
 }

@@ -4,7 +4,7 @@ use crate::places::{ColumnOf, column_at};
 use og_base::NoMemory;
 use og_query::{Core, Expr};
 use og_sql_query::{Count, Source};
-use og_sql_text::{Columns, Sql, is_steady_kind};
+use og_sql_text::{Columns, Sql, is_steady_kind, put_table};
 use og_value::Kind;
 use std::alloc::Global;
 
@@ -25,12 +25,15 @@ pub fn put_near(
     columns: &Columns,
     count: &mut Count,
     out: &mut Sql,
-) -> Result<Vec<Option<Source>>, NoMemory> {
+) -> Vec<Option<Source>> {
     let mut places = Vec::new(out.alloc());
     'places: for i in 0..select.tables.as_slice().len() {
-        places.push(put_near_at(select, i, columns, count, out)?)?;
+        let place = put_near_at(select, i, columns, count, out);
+        if places.push(place).is_err() {
+            out.cut();
+        }
     }
-    Ok(places)
+    places
 }
 
 // Appends the part of the rows of the table at that place.
@@ -40,26 +43,29 @@ fn put_near_at(
     columns: &Columns,
     count: &mut Count,
     out: &mut Sql,
-) -> Result<Option<Source>, NoMemory> {
-    let shown = shown_of(out.alloc(), select, place)?;
+) -> Option<Source> {
+    let shown = shown_of(out.alloc(), select, place);
+    let Some(shown) = out.made(shown) else {
+        return None;
+    };
     let Some(table) = select.tables.as_slice().get(place) else {
-        return Ok(None);
+        return None;
     };
     if shown.is_empty() {
-        return Ok(None);
+        return None;
     }
-    let source = count.begin("near", "", out)?;
-    let own = Columns::of(out.alloc(), &table.schema)?;
-    out.put("SELECT l.* FROM ")?;
-    Source::Table(table.name.copy()?).put(out)?;
-    out.put(" AS l WHERE (")?;
-    put_values(shown.as_slice(), false, &own, "l.", out)?;
-    out.put(") IN (SELECT ")?;
-    put_values(shown.as_slice(), true, columns, "", out)?;
-    out.put(" FROM ")?;
-    out.put(TOUCHED)?;
-    out.put("))")?;
-    Ok(Some(source))
+    let source = count.begin("near", "", out);
+    let own = Columns::of(&table.schema, out);
+    out.put("SELECT l.* FROM ");
+    put_table(&table.name, out);
+    out.put(" AS l WHERE (");
+    put_values(shown.as_slice(), false, &own, "l.", out);
+    out.put(") IN (SELECT ");
+    put_values(shown.as_slice(), true, columns, "", out);
+    out.put(" FROM ");
+    out.put(TOUCHED);
+    out.put("))");
+    Some(source)
 }
 
 // The numbers and texts of the table at that place that are items.
@@ -98,33 +104,26 @@ fn is_steady_at(select: &Core, table: usize, column: usize) -> bool {
 }
 
 // Appends the columns, each under its name behind the word. Before a text stands its number, on which there is an index.
-fn put_values(
-    shown: &[Shown],
-    of_items: bool,
-    columns: &Columns,
-    before: &str,
-    out: &mut Sql,
-) -> Result<(), NoMemory> {
+fn put_values(shown: &[Shown], of_items: bool, columns: &Columns, before: &str, out: &mut Sql) {
     'shown: for i in 0..shown.len() {
         let place = if of_items {
             shown[i].item
         } else {
             shown[i].column
         };
-        out.put(if i > 0 { ", " } else { "" })?;
-        put_value(place, columns, before, out)?;
+        out.put(if i > 0 { ", " } else { "" });
+        put_value(place, columns, before, out);
     }
-    Ok(())
 }
 
 // Appends the column at that place.
-fn put_value(place: usize, columns: &Columns, before: &str, out: &mut Sql) -> Result<(), NoMemory> {
+fn put_value(place: usize, columns: &Columns, before: &str, out: &mut Sql) {
     if columns.kind(place) == Kind::Text {
-        out.put("hashtext(")?;
-        out.put(before)?;
-        columns.put(place, out)?;
-        out.put("), ")?;
+        out.put("hashtext(");
+        out.put(before);
+        columns.put(place, out);
+        out.put("), ");
     }
-    out.put(before)?;
+    out.put(before);
     columns.put(place, out)
 }

@@ -3,6 +3,7 @@
 use og_base::NoMemory;
 use og_query::{Core, From1, Query};
 use og_sql_query::{Source, select_at};
+use og_sql_text::Sql;
 use og_value::Name;
 use std::alloc::Global;
 
@@ -48,23 +49,25 @@ pub fn is_joined_with_itself(query: &Query, name: &Name) -> bool {
 /// What the places of a SELECT read where the changed rows stand at that place: at other places of the same table what
 /// stands for it, where something does, and else its table.
 pub fn places_with(
-    alloc: Global,
     select: &Core,
     place: usize,
     changed: &Source,
     table: &Option<Source>,
-) -> Result<Vec<Option<Source>>, NoMemory> {
+    out: &mut Sql,
+) -> Vec<Option<Source>> {
     let tables = select.tables.as_slice();
-    let mut places = Vec::new(alloc);
+    let mut places = Vec::new(out.alloc());
     'places: for i in 0..tables.len() {
         let source = if i == place {
-            Some(changed.copy()?)
+            Some(changed.copy(out))
         } else {
-            standing(tables, i, place, table)?
+            standing(tables, i, place, table, out)
         };
-        places.push(source)?;
+        if places.push(source).is_err() {
+            out.cut();
+        }
     }
-    Ok(places)
+    places
 }
 
 // What stands for a table at a place where it is that of the other place.
@@ -73,10 +76,11 @@ fn standing(
     at: usize,
     other: usize,
     table: &Option<Source>,
-) -> Result<Option<Source>, NoMemory> {
+    out: &mut Sql,
+) -> Option<Source> {
     match table {
-        Some(source) if are_of_one_name(tables, at, other) => Ok(Some(source.copy()?)),
-        _ => Ok(None),
+        Some(source) if are_of_one_name(tables, at, other) => Some(source.copy(out)),
+        _ => None,
     }
 }
 

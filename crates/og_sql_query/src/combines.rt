@@ -2,7 +2,6 @@
 
 use crate::node::{Count, Node, Source};
 use crate::semis::{put_met, put_numbered};
-use og_base::NoMemory;
 use og_sql_text::{Columns, Sql, is_steady_kind};
 use og_value::{Kind, SetOp};
 
@@ -14,7 +13,7 @@ pub fn put_combine(
     answer: &Columns,
     count: &mut Count,
     out: &mut Sql,
-) -> Result<Node, NoMemory> {
+) -> Node {
     match op {
         SetOp::Union => put_union(left, right, answer, count, out),
         SetOp::Except => put_compared(left, right, false, answer, count, out),
@@ -29,24 +28,24 @@ fn put_union(
     answer: &Columns,
     count: &mut Count,
     out: &mut Sql,
-) -> Result<Node, NoMemory> {
+) -> Node {
     let kept = count.by_itself();
-    let source = count.begin("union", kept, out)?;
-    out.put("SELECT ")?;
-    answer.put_all("", out)?;
-    out.put(", range_agg(days) AS days FROM (SELECT ")?;
-    answer.put_all("", out)?;
-    out.put(", days FROM ")?;
-    left.put(out)?;
-    out.put("\n    UNION ALL SELECT ")?;
-    answer.put_all("", out)?;
-    out.put(", days FROM ")?;
-    right.put(out)?;
-    out.put(") AS l GROUP BY ")?;
-    answer.put_places(out)?;
-    out.put(")")?;
-    let columns = answer.copy()?;
-    Ok(Node { source, columns })
+    let source = count.begin("union", kept, out);
+    out.put("SELECT ");
+    answer.put_all("", out);
+    out.put(", range_agg(days) AS days FROM (SELECT ");
+    answer.put_all("", out);
+    out.put(", days FROM ");
+    left.put(out);
+    out.put("\n    UNION ALL SELECT ");
+    answer.put_all("", out);
+    out.put(", days FROM ");
+    right.put(out);
+    out.put(") AS l GROUP BY ");
+    answer.put_places(out);
+    out.put(")");
+    let columns = answer.copy(out);
+    Node { source, columns }
 }
 
 // Appends the parts of the rows of the left that the right has, or has not, on the days on which it does.
@@ -57,30 +56,25 @@ fn put_compared(
     answer: &Columns,
     count: &mut Count,
     out: &mut Sql,
-) -> Result<Node, NoMemory> {
+) -> Node {
     let input = Node {
-        source: left.source.copy()?,
-        columns: answer.copy()?,
+        source: left.source.copy(out),
+        columns: answer.copy(out),
     };
-    let base = put_numbered(input, count, out)?;
-    let others = put_others(right, answer, count, out)?;
-    let hits = put_same(&base, &others, answer, count, out)?;
+    let base = put_numbered(input, count, out);
+    let others = put_others(right, answer, count, out);
+    let hits = put_same(&base, &others, answer, count, out);
     put_met(base, &hits, is_positive, count, out)
 }
 
 // Appends the part of the right rows, made before it is compared.
-fn put_others(
-    right: &Node,
-    answer: &Columns,
-    count: &mut Count,
-    out: &mut Sql,
-) -> Result<Node, NoMemory> {
-    let source = count.begin("others", "MATERIALIZED ", out)?;
-    out.put("SELECT * FROM ")?;
-    right.put(out)?;
-    out.put(")")?;
-    let columns = answer.copy()?;
-    Ok(Node { source, columns })
+fn put_others(right: &Node, answer: &Columns, count: &mut Count, out: &mut Sql) -> Node {
+    let source = count.begin("others", "MATERIALIZED ", out);
+    out.put("SELECT * FROM ");
+    right.put(out);
+    out.put(")");
+    let columns = answer.copy(out);
+    Node { source, columns }
 }
 
 // Appends the part of the days on which a left row is a right one, by its number.
@@ -90,70 +84,62 @@ fn put_same(
     answer: &Columns,
     count: &mut Count,
     out: &mut Sql,
-) -> Result<Source, NoMemory> {
+) -> Source {
     let kept = count.by_itself();
-    let source = count.begin("found", kept, out)?;
-    out.put("SELECT row$, range_agg(days) AS days FROM (SELECT l.row$, l.days * r.days")?;
-    put_same_days(answer, out)?;
-    out.put(" AS days\n    FROM ")?;
-    base.put(out)?;
-    out.put(" AS l JOIN ")?;
-    others.put(out)?;
-    out.put(" AS r ON ")?;
-    put_same_tests(answer, out)?;
-    out.put(" OFFSET 0) AS joined WHERE NOT isempty(days) GROUP BY 1)")?;
-    Ok(source)
+    let source = count.begin("found", kept, out);
+    out.put("SELECT row$, range_agg(days) AS days FROM (SELECT l.row$, l.days * r.days");
+    put_same_days(answer, out);
+    out.put(" AS days\n    FROM ");
+    base.put(out);
+    out.put(" AS l JOIN ");
+    others.put(out);
+    out.put(" AS r ON ");
+    put_same_tests(answer, out);
+    out.put(" OFFSET 0) AS joined WHERE NOT isempty(days) GROUP BY 1)");
+    source
 }
 
 // Appends the days on which the days and periods of both rows are the same.
-fn put_same_days(answer: &Columns, out: &mut Sql) -> Result<(), NoMemory> {
+fn put_same_days(answer: &Columns, out: &mut Sql) {
     'columns: for i in 0..answer.len() {
         if !is_steady_kind(answer.kind(i)) {
-            out.put(" * same(l.")?;
-            answer.put(i, out)?;
-            out.put(", r.")?;
-            answer.put(i, out)?;
-            out.put(")")?;
+            out.put(" * same(l.");
+            answer.put(i, out);
+            out.put(", r.");
+            answer.put(i, out);
+            out.put(")");
         }
     }
-    Ok(())
 }
 
 // Appends that the numbers and texts of both rows are equal, and that their days may be.
-fn put_same_tests(answer: &Columns, out: &mut Sql) -> Result<(), NoMemory> {
+fn put_same_tests(answer: &Columns, out: &mut Sql) {
     'columns: for i in 0..answer.len() {
-        out.put(if i > 0 { " AND " } else { "" })?;
+        out.put(if i > 0 { " AND " } else { "" });
         match answer.kind(i) {
-            Kind::Int | Kind::Text => put_equal(answer, i, out)?,
-            Kind::Date => put_meeting(answer, i, "low", "high", out)?,
+            Kind::Int | Kind::Text => put_equal(answer, i, out),
+            Kind::Date => put_meeting(answer, i, "low", "high", out),
             Kind::Period => {
-                put_meeting(answer, i, "start_low", "start_high", out)?;
-                out.put(" AND ")?;
-                put_meeting(answer, i, "end_low", "end_high", out)?;
+                put_meeting(answer, i, "start_low", "start_high", out);
+                out.put(" AND ");
+                put_meeting(answer, i, "end_low", "end_high", out);
             }
         }
     }
-    Ok(())
 }
 
 // Appends that a column is equal in both rows.
-fn put_equal(answer: &Columns, i: usize, out: &mut Sql) -> Result<(), NoMemory> {
-    out.put("l.")?;
-    answer.put(i, out)?;
-    out.put(" = r.")?;
+fn put_equal(answer: &Columns, i: usize, out: &mut Sql) {
+    out.put("l.");
+    answer.put(i, out);
+    out.put(" = r.");
     answer.put(i, out)
 }
 
 // Appends that two points may be the same day: each begins at the latest where the other ends.
-fn put_meeting(
-    answer: &Columns,
-    i: usize,
-    low: &str,
-    high: &str,
-    out: &mut Sql,
-) -> Result<(), NoMemory> {
-    put_at_most(answer, i, "(l.", low, ").", "(r.", high, out)?;
-    out.put(" AND ")?;
+fn put_meeting(answer: &Columns, i: usize, low: &str, high: &str, out: &mut Sql) {
+    put_at_most(answer, i, "(l.", low, ").", "(r.", high, out);
+    out.put(" AND ");
     put_at_most(answer, i, "(r.", low, ").", "(l.", high, out)
 }
 
@@ -167,14 +153,14 @@ fn put_at_most(
     two: &str,
     high: &str,
     out: &mut Sql,
-) -> Result<(), NoMemory> {
-    out.put(one)?;
-    answer.put(i, out)?;
-    out.put(dot)?;
-    out.put(low)?;
-    out.put(" <= ")?;
-    out.put(two)?;
-    answer.put(i, out)?;
-    out.put(dot)?;
+) {
+    out.put(one);
+    answer.put(i, out);
+    out.put(dot);
+    out.put(low);
+    out.put(" <= ");
+    out.put(two);
+    answer.put(i, out);
+    out.put(dot);
     out.put(high)
 }

@@ -1,6 +1,5 @@
 //! The nodes of a plan as the parts of a WITH.
 
-use og_base::NoMemory;
 use og_sql_text::{Columns, Sql, put_table};
 use og_value::Name;
 use std::alloc::Global;
@@ -27,7 +26,7 @@ pub struct Node {
 
 impl Source {
     /// Appends the name.
-    pub fn put(&self, out: &mut Sql) -> Result<(), NoMemory> {
+    pub fn put(&self, out: &mut Sql) {
         match self {
             Source::Table(name) => put_table(name, out),
             Source::Asked => out.put("parts.asked$"),
@@ -36,36 +35,44 @@ impl Source {
         }
     }
 
-    /// The same name once more.
-    pub fn copy(&self) -> Result<Source, NoMemory> {
+    /// The table or the view of a name. Where memory runs out the text is cut, and another source is given.
+    pub fn of_table(name: &Name, out: &mut Sql) -> Source {
+        match out.made(name.copy()) {
+            Some(name) => Source::Table(name),
+            None => Source::Asked,
+        }
+    }
+
+    /// The source once more. Where memory runs out the text is cut, and another one is given.
+    pub fn copy(&self, out: &mut Sql) -> Source {
         match self {
-            Source::Table(name) => Ok(Source::Table(name.copy()?)),
-            Source::Asked => Ok(Source::Asked),
-            Source::Part { word, number } => Ok(Source::Part {
+            Source::Table(name) => Source::of_table(name, out),
+            Source::Asked => Source::Asked,
+            Source::Part { word, number } => Source::Part {
                 word: *word,
                 number: *number,
-            }),
-            Source::Changed { word } => Ok(Source::Changed { word: *word }),
+            },
+            Source::Changed { word } => Source::Changed { word: *word },
         }
     }
 }
 
 impl Node {
     /// Appends the name of the rows.
-    pub fn put(&self, out: &mut Sql) -> Result<(), NoMemory> {
+    pub fn put(&self, out: &mut Sql) {
         self.source.put(out)
     }
 }
 
 // Appends a word that is no name: no name of ongq has a `$`.
-fn put_word(word: &str, out: &mut Sql) -> Result<(), NoMemory> {
-    out.put(word)?;
+fn put_word(word: &str, out: &mut Sql) {
+    out.put(word);
     out.put("$")
 }
 
 // Appends the name of a part.
-fn put_part(word: &str, number: usize, out: &mut Sql) -> Result<(), NoMemory> {
-    put_word(word, out)?;
+fn put_part(word: &str, number: usize, out: &mut Sql) {
+    put_word(word, out);
     out.number(number)
 }
 
@@ -118,29 +125,24 @@ impl Count {
     }
 
     /// What the next place of FROM reads, at which the table stands.
-    pub fn next_place(&mut self, table: &Name) -> Result<Source, NoMemory> {
+    pub fn next_place(&mut self, table: &Name, out: &mut Sql) -> Source {
         let place = self.scans;
         self.scans = place.saturating_add(1);
         match self.places.get(place) {
-            Some(Some(source)) => source.copy(),
-            _ => Ok(Source::Table(table.copy()?)),
+            Some(Some(source)) => source.copy(out),
+            _ => Source::of_table(table, out),
         }
     }
 
     /// Begins a further part with that word, to be ended by `)`. Gives its name.
-    pub fn begin(
-        &mut self,
-        word: &'static str,
-        kept: &str,
-        out: &mut Sql,
-    ) -> Result<Source, NoMemory> {
-        out.put(if self.parts == 0 { "WITH " } else { ",\n" })?;
+    pub fn begin(&mut self, word: &'static str, kept: &str, out: &mut Sql) -> Source {
+        out.put(if self.parts == 0 { "WITH " } else { ",\n" });
         self.parts = self.parts.saturating_add(1);
         let number = self.parts;
-        put_part(word, number, out)?;
-        out.put(" AS ")?;
-        out.put(kept)?;
-        out.put("(\n    ")?;
-        Ok(Source::Part { word, number })
+        put_part(word, number, out);
+        out.put(" AS ");
+        out.put(kept);
+        out.put("(\n    ");
+        Source::Part { word, number }
     }
 }

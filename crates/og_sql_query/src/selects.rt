@@ -46,17 +46,13 @@ pub fn plan_of_select(alloc: Global, select: &Core) -> Result<Plan, NoMemory>
 }
 
 /// Appends the parts of a SELECT, which fits its tables, whose answer has these columns and whose places of FROM read what
-/// the count says. Gives its last node. Refused only for want of memory.
-pub fn put_select(
-    select: &Core,
-    answer: &Columns,
-    count: &mut Count,
-    out: &mut Sql,
-) -> Result<Node, NoMemory>
+/// the count says. Gives its last node, if memory did not run out, and else the text is cut.
+pub fn put_select(select: &Core, answer: &Columns, count: &mut Count, out: &mut Sql) -> Option<Node>
     requires fits { (schemas : Schemas) × IsFitCore schemas select.now }
 {
-    let plan = plan_of_select(out.alloc(), select)?;
-    let node = put_plan(&plan, answer, count, out);
-    drop(plan);
-    node
+    let plan = plan_of_select(out.alloc(), select);
+    match out.made(plan) {
+        Some(plan) => Some(put_plan(&plan, answer, count, out)),
+        None => None,
+    }
 }

@@ -2,48 +2,37 @@
 
 use crate::joins::put_on;
 use crate::node::{Count, Node, Source};
-use og_base::NoMemory;
 use og_plan::PlanSemi;
 use og_sql_text::{Columns, Sight, Sql, put_products};
 
 /// Appends the parts of the rows that meet all of the semis, on the days on which they do.
-pub fn put_semis(
-    node: Node,
-    semis: &[PlanSemi],
-    count: &mut Count,
-    out: &mut Sql,
-) -> Result<Node, NoMemory> {
-    let mut base = put_numbered(node, count, out)?;
+pub fn put_semis(node: Node, semis: &[PlanSemi], count: &mut Count, out: &mut Sql) -> Node {
+    let mut base = put_numbered(node, count, out);
     'semis: for semi in semis {
-        base = put_semi(base, semi, count, out)?;
+        base = put_semi(base, semi, count, out);
     }
-    Ok(base)
+    base
 }
 
 /// Appends the part of the rows with a number for each, in the column `row$`.
-pub fn put_numbered(node: Node, count: &mut Count, out: &mut Sql) -> Result<Node, NoMemory> {
-    let source = count.begin("numbered", "MATERIALIZED ", out)?;
-    out.put("SELECT row_number() OVER () AS row$, ")?;
-    node.columns.put_all("l.", out)?;
-    out.put(", l.days FROM ")?;
-    node.put(out)?;
-    out.put(" AS l)")?;
+pub fn put_numbered(node: Node, count: &mut Count, out: &mut Sql) -> Node {
+    let source = count.begin("numbered", "MATERIALIZED ", out);
+    out.put("SELECT row_number() OVER () AS row$, ");
+    node.columns.put_all("l.", out);
+    out.put(", l.days FROM ");
+    node.put(out);
+    out.put(" AS l)");
     let Node { columns, .. } = node;
-    Ok(Node { source, columns })
+    Node { source, columns }
 }
 
 // Appends the parts of one semi.
-fn put_semi(
-    base: Node,
-    semi: &PlanSemi,
-    count: &mut Count,
-    out: &mut Sql,
-) -> Result<Node, NoMemory> {
+fn put_semi(base: Node, semi: &PlanSemi, count: &mut Count, out: &mut Sql) -> Node {
     let table = Node {
-        source: Source::Table(semi.table.name.copy()?),
-        columns: Columns::of(out.alloc(), &semi.table.schema)?,
+        source: Source::of_table(&semi.table.name, out),
+        columns: Columns::of(&semi.table.schema, out),
     };
-    let hits = put_hits(&base, &table, semi, count, out)?;
+    let hits = put_hits(&base, &table, semi, count, out);
     put_met(base, &hits, semi.positive, count, out)
 }
 
@@ -54,24 +43,24 @@ fn put_hits(
     semi: &PlanSemi,
     count: &mut Count,
     out: &mut Sql,
-) -> Result<Source, NoMemory> {
+) -> Source {
     let sight = Sight {
         left: &base.columns,
         right: &table.columns,
     };
     let parts = semi.parts.as_slice();
     let kept = count.by_itself();
-    let source = count.begin("found", kept, out)?;
-    out.put("SELECT row$, range_agg(days) AS days FROM (SELECT l.row$, l.days * r.days")?;
-    put_products(parts, sight, out)?;
-    out.put(" AS days\n    FROM ")?;
-    base.put(out)?;
-    out.put(" AS l JOIN ")?;
-    table.put(out)?;
-    out.put(" AS r ON ")?;
-    put_on("", true, parts, sight, out)?;
-    out.put(" OFFSET 0) AS joined WHERE NOT isempty(days) GROUP BY 1)")?;
-    Ok(source)
+    let source = count.begin("found", kept, out);
+    out.put("SELECT row$, range_agg(days) AS days FROM (SELECT l.row$, l.days * r.days");
+    put_products(parts, sight, out);
+    out.put(" AS days\n    FROM ");
+    base.put(out);
+    out.put(" AS l JOIN ");
+    table.put(out);
+    out.put(" AS r ON ");
+    put_on("", true, parts, sight, out);
+    out.put(" OFFSET 0) AS joined WHERE NOT isempty(days) GROUP BY 1)");
+    source
 }
 
 /// Appends the part of the rows on the days that were found, or on all others.
@@ -81,24 +70,24 @@ pub fn put_met(
     is_positive: bool,
     count: &mut Count,
     out: &mut Sql,
-) -> Result<Node, NoMemory> {
-    let source = count.begin(if is_positive { "semi" } else { "anti" }, "", out)?;
-    out.put("SELECT * FROM (SELECT l.row$, ")?;
-    base.columns.put_all("l.", out)?;
+) -> Node {
+    let source = count.begin(if is_positive { "semi" } else { "anti" }, "", out);
+    out.put("SELECT * FROM (SELECT l.row$, ");
+    base.columns.put_all("l.", out);
     out.put(if is_positive {
         ", r.days"
     } else {
         ", CASE WHEN r.days IS NULL THEN l.days ELSE l.days - r.days END AS days"
-    })?;
-    out.put("\n    FROM ")?;
-    base.put(out)?;
+    });
+    out.put("\n    FROM ");
+    base.put(out);
     out.put(if is_positive {
         " AS l JOIN "
     } else {
         " AS l LEFT JOIN "
-    })?;
-    hits.put(out)?;
-    out.put(" AS r ON l.row$ = r.row$ OFFSET 0) AS met WHERE NOT isempty(days))")?;
+    });
+    hits.put(out);
+    out.put(" AS r ON l.row$ = r.row$ OFFSET 0) AS met WHERE NOT isempty(days))");
     let Node { columns, .. } = base;
-    Ok(Node { source, columns })
+    Node { source, columns }
 }

@@ -3,7 +3,7 @@
 //! A `Way` says where the rows of a table stand, by which column they are spread over servers. `put_insert`, `put_copy`
 //! and `put_copy_of_days` put rows in, `put_update` and `put_delete` change them on some of their days, `put_save` writes
 //! them to a file, and `put_valid` asks around which days a list of them stays the same. Nothing is promised of the SQL
-//! but that it is made without a fault, or refused for want of memory: it is tested against PostgreSQL.
+//! but that it is made without a fault, or cut for want of memory: it is tested against PostgreSQL.
 #![tactic(auto)]
 
 mod changes;

@@ -1,7 +1,6 @@
 //! Why the nodes send rows.
 
 use crate::parts::At;
-use og_base::NoMemory;
 use og_sql_text::Sql;
 use og_value::Name;
 
@@ -21,15 +20,15 @@ pub enum Why {
 }
 
 /// Appends as a comment why the nodes send rows, where they do.
-pub fn put_why(at: At, column: &Name, out: &mut Sql) -> Result<(), NoMemory> {
+pub fn put_why(at: At, column: &Name, out: &mut Sql) {
     let At::Sent(why) = at else {
-        return Ok(());
+        return;
     };
     let (before, behind) = words_of(why);
-    out.put("-- ")?;
-    out.put(before)?;
-    out.put_bytes(column.bytes())?;
-    out.put(behind)?;
+    out.put("-- ");
+    out.put(before);
+    out.put_bytes(column.bytes());
+    out.put(behind);
     out.put("\n")
 }
 

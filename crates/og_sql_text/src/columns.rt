@@ -30,27 +30,26 @@ impl Columns {
         }
     }
 
-    /// The columns of a table or of an answer.
-    pub fn of(alloc: Global, schema: &Schema) -> Result<Columns, NoMemory> {
-        let mut columns = Columns::none(alloc);
-        columns.add_schema(schema)?;
-        Ok(columns)
+    /// The columns of a table or of an answer, for a text, which is cut where memory runs out.
+    pub fn of(schema: &Schema, out: &mut Sql) -> Columns {
+        let mut columns = Columns::none(out.alloc());
+        columns.add_schema(schema, out);
+        columns
     }
 
     /// Adds the columns of a table behind these.
-    pub fn add_schema(&mut self, schema: &Schema) -> Result<(), NoMemory> {
+    pub fn add_schema(&mut self, schema: &Schema, out: &mut Sql) {
         'columns: for i in 0..schema.len() {
             let column = schema.column(i);
-            self.add(column.name.bytes(), column.kind)?;
+            self.add(column.name.bytes(), column.kind, out);
         }
-        Ok(())
     }
 
-    /// The same columns once more.
-    pub fn copy(&self) -> Result<Columns, NoMemory> {
+    /// The columns once more.
+    pub fn copy(&self, out: &mut Sql) -> Columns {
         let mut columns = Columns::none(self.alloc);
-        columns.add_all(self)?;
-        Ok(columns)
+        columns.add_all(self, out);
+        columns
     }
 
     /// The number of columns.
@@ -66,13 +65,20 @@ impl Columns {
         }
     }
 
-    /// Adds a column. Where its name is taken or no name of a column, it has its place behind `$`.
-    pub fn add(&mut self, name: &[u8], kind: Kind) -> Result<(), NoMemory> {
+    /// Adds a column. Where its name is taken or no name of a column, it has its place behind `$`. Where memory runs out the
+    /// text is cut.
+    pub fn add(&mut self, name: &[u8], kind: Kind, out: &mut Sql) {
         let mark = if may_be_column(name) && !self.has(name) {
             0
         } else {
             self.list.len().saturating_add(1)
         };
+        let added = self.push(name, mark, kind);
+        out.made(added);
+    }
+
+    // Adds a column under its name and the number behind `$`.
+    fn push(&mut self, name: &[u8], mark: usize, kind: Kind) -> Result<(), NoMemory> {
         let name = Vec::from_slice(self.alloc, name)?;
         self.list.push(One { name, mark, kind })?;
         Ok(())
@@ -89,19 +95,18 @@ impl Columns {
     }
 
     /// Adds all columns of the other row behind these.
-    pub fn add_all(&mut self, other: &Columns) -> Result<(), NoMemory> {
+    pub fn add_all(&mut self, other: &Columns, out: &mut Sql) {
         'columns: for one in other.list.as_slice() {
-            self.add(one.name.as_slice(), one.kind)?;
+            self.add(one.name.as_slice(), one.kind, out);
         }
-        Ok(())
     }
 
     /// Appends the name of the column at that place.
-    pub fn put(&self, place: usize, out: &mut Sql) -> Result<(), NoMemory> {
+    pub fn put(&self, place: usize, out: &mut Sql) {
         match self.list.get(place) {
             Some(one) if one.mark > 0 => put_marked(one.name.as_slice(), one.mark, out),
             Some(one) => put_name(one.name.as_slice(), out),
-            None => Ok(()),
+            None => {}
         }
     }
 
@@ -116,29 +121,27 @@ impl Columns {
     }
 
     /// Appends the names, with commas between them, each after a dot and the word where there is one.
-    pub fn put_all(&self, before: &str, out: &mut Sql) -> Result<(), NoMemory> {
+    pub fn put_all(&self, before: &str, out: &mut Sql) {
         'columns: for i in 0..self.list.len() {
-            out.put(if i > 0 { ", " } else { "" })?;
-            out.put(before)?;
-            self.put(i, out)?;
+            out.put(if i > 0 { ", " } else { "" });
+            out.put(before);
+            self.put(i, out);
         }
-        Ok(())
     }
 
     /// Appends the places of the columns from 1, with commas between them.
-    pub fn put_places(&self, out: &mut Sql) -> Result<(), NoMemory> {
+    pub fn put_places(&self, out: &mut Sql) {
         'columns: for i in 0..self.list.len() {
-            out.put(if i > 0 { ", " } else { "" })?;
-            out.number(i.saturating_add(1))?;
+            out.put(if i > 0 { ", " } else { "" });
+            out.number(i.saturating_add(1));
         }
-        Ok(())
     }
 
     /// Appends the columns as CREATE TABLE has them.
-    pub fn put_types(&self, out: &mut Sql) -> Result<(), NoMemory> {
+    pub fn put_types(&self, out: &mut Sql) {
         'columns: for i in 0..self.list.len() {
-            self.put(i, out)?;
-            out.put(type_of(self.kind(i)))?;
+            self.put(i, out);
+            out.put(type_of(self.kind(i)));
         }
         out.put("days datemultirange NOT NULL DEFAULT '{(,)}'")
     }

@@ -3,7 +3,6 @@
 use crate::expressions::put_expr;
 use crate::sight::Sight;
 use crate::sql::Sql;
-use og_base::NoMemory;
 use og_query::{Cond, Expr};
 use og_value::{Cmp, Pred};
 use sqlite_items::Items;
@@ -32,40 +31,34 @@ fn are_steady(parts: &Items<Cond>, sight: Sight<'_>) -> bool {
 
 /// Appends a condition that is the same on all days, as a truth.
 #[cycle(truths)]
-pub fn put_truth(cond: &Cond, sight: Sight<'_>, out: &mut Sql) -> Result<(), NoMemory> {
+pub fn put_truth(cond: &Cond, sight: Sight<'_>, out: &mut Sql) {
     match cond {
         Cond::And(parts) => put_truths(parts, "true", " AND ", sight, out),
         Cond::Or(parts) => put_truths(parts, "false", " OR ", sight, out),
         Cond::Not(one) => {
-            out.put("NOT ")?;
+            out.put("NOT ");
             put_truth(one.get(), sight, out)
         }
         Cond::Compare { op, left, right } => {
-            out.put("(")?;
-            put_expr(left, sight, out)?;
-            out.put(sign_of(*op))?;
-            put_expr(right, sight, out)?;
+            out.put("(");
+            put_expr(left, sight, out);
+            out.put(sign_of(*op));
+            put_expr(right, sight, out);
             out.put(")")
         }
-        _ => Ok(()),
+        _ => {}
     }
 }
 
 // Appends truths with a word between them, and the other word where there are none.
 #[cycle(truths)]
-fn put_truths(
-    parts: &Items<Cond>,
-    none: &str,
-    word: &str,
-    sight: Sight<'_>,
-    out: &mut Sql,
-) -> Result<(), NoMemory> {
-    out.put("(")?;
-    out.put(if parts.is_empty() { none } else { "" })?;
+fn put_truths(parts: &Items<Cond>, none: &str, word: &str, sight: Sight<'_>, out: &mut Sql) {
+    out.put("(");
+    out.put(if parts.is_empty() { none } else { "" });
     let mut between = "";
     'parts: for part in parts.as_slice() {
-        out.put(between)?;
-        put_truth(part, sight, out)?;
+        out.put(between);
+        put_truth(part, sight, out);
         between = word;
     }
     out.put(")")
@@ -110,25 +103,25 @@ fn related(pred: Pred) -> &'static str {
 
 /// Appends the days on which the condition holds.
 #[cycle(days)]
-pub fn put_days(cond: &Cond, sight: Sight<'_>, out: &mut Sql) -> Result<(), NoMemory> {
+pub fn put_days(cond: &Cond, sight: Sight<'_>, out: &mut Sql) {
     if is_steady(cond, sight) {
-        out.put("days(")?;
-        put_truth(cond, sight, out)?;
+        out.put("days(");
+        put_truth(cond, sight, out);
         return out.put(")");
     }
     match cond {
         Cond::And(parts) => put_all_days(parts, " * ", sight, out),
         Cond::Or(parts) => put_all_days(parts, " + ", sight, out),
         Cond::Not(one) => {
-            out.put("other_days(")?;
-            put_days(one.get(), sight, out)?;
+            out.put("other_days(");
+            put_days(one.get(), sight, out);
             out.put(")")
         }
         Cond::Compare { op, left, right } => put_two(compared(*op), left, right, sight, out),
         Cond::Relate { pred, left, right } => put_two(related(*pred), left, right, sight, out),
         Cond::Empty(period) => {
-            out.put("empty(")?;
-            put_expr(period, sight, out)?;
+            out.put("empty(");
+            put_expr(period, sight, out);
             out.put(")")
         }
         Cond::Contains(period, day) => put_two("contains(", period, day, sight, out),
@@ -137,33 +130,22 @@ pub fn put_days(cond: &Cond, sight: Sight<'_>, out: &mut Sql) -> Result<(), NoMe
 
 // Appends the days of several conditions with a sign between them.
 #[cycle(days)]
-fn put_all_days(
-    parts: &Items<Cond>,
-    sign: &str,
-    sight: Sight<'_>,
-    out: &mut Sql,
-) -> Result<(), NoMemory> {
-    out.put("(")?;
+fn put_all_days(parts: &Items<Cond>, sign: &str, sight: Sight<'_>, out: &mut Sql) {
+    out.put("(");
     let mut between = "";
     'parts: for part in parts.as_slice() {
-        out.put(between)?;
-        put_days(part, sight, out)?;
+        out.put(between);
+        put_days(part, sight, out);
         between = sign;
     }
     out.put(")")
 }
 
 // Appends a call with two expressions.
-fn put_two(
-    call: &str,
-    left: &Expr,
-    right: &Expr,
-    sight: Sight<'_>,
-    out: &mut Sql,
-) -> Result<(), NoMemory> {
-    out.put(call)?;
-    put_expr(left, sight, out)?;
-    out.put(", ")?;
-    put_expr(right, sight, out)?;
+fn put_two(call: &str, left: &Expr, right: &Expr, sight: Sight<'_>, out: &mut Sql) {
+    out.put(call);
+    put_expr(left, sight, out);
+    out.put(", ");
+    put_expr(right, sight, out);
     out.put(")")
 }

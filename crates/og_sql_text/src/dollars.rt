@@ -1,27 +1,29 @@
-//! Texts between dollars, in which nothing is written otherwise than alone.
+//! Texts of SQL between dollars, in which nothing is written otherwise than alone.
 
 use crate::sql::Sql;
-use og_base::NoMemory;
 
-/// Appends a text between the word in dollars. Where the text has these, the word has underscores behind it, more than
-/// stand anywhere in the text.
-pub fn put_dollars(word: &str, text: &[u8], out: &mut Sql) -> Result<(), NoMemory> {
+/// Appends a text on lines of its own between the word in dollars. Where the text has these, the word has underscores behind
+/// it, more than stand anywhere in the text.
+pub fn put_dollars(word: &str, sql: &Sql, out: &mut Sql) {
+    let text = sql.written();
     let marks = if has_dollars(word.as_bytes(), text) {
         underscores_in(text).saturating_add(1)
     } else {
         0
     };
-    put_tag(word, marks, out)?;
-    out.put_bytes(text)?;
+    put_tag(word, marks, out);
+    out.put("\n");
+    out.put_sql(sql);
+    out.put(if text.ends_with(b"\n") { "" } else { "\n" });
     put_tag(word, marks, out)
 }
 
 // Appends the word and that number of underscores, in dollars.
-fn put_tag(word: &str, marks: usize, out: &mut Sql) -> Result<(), NoMemory> {
-    out.put("$")?;
-    out.put(word)?;
+fn put_tag(word: &str, marks: usize, out: &mut Sql) {
+    out.put("$");
+    out.put(word);
     'marks: for _ in 0..marks {
-        out.put("_")?;
+        out.put("_");
     }
     out.put("$")
 }
@@ -38,7 +40,7 @@ fn has_dollars(word: &[u8], text: &[u8]) -> bool {
     false
 }
 
-// How many bytes of a dollar and the word are the last of a text, where so many were before its last byte.
+// How many bytes of a dollar and the word are the last of a text, where that many were before its last byte.
 fn found_with(word: &[u8], found: usize, b: u8) -> usize {
     if b == b'$' {
         return 1;

@@ -1,7 +1,6 @@
 //! Names of SQL.
 
 use crate::sql::Sql;
-use og_base::NoMemory;
 use og_value::Name;
 
 // The words of PostgreSQL that are no names of tables and columns everywhere. A column of a saved file may have any.
@@ -200,7 +199,7 @@ fn may_be_table(name: &[u8]) -> bool {
 }
 
 /// Appends a name, between double quotes where it needs them.
-pub fn put_name(name: &[u8], out: &mut Sql) -> Result<(), NoMemory> {
+pub fn put_name(name: &[u8], out: &mut Sql) {
     if is_one_of(name, KEYWORDS) {
         return put_marked(name, 0, out);
     }
@@ -208,19 +207,19 @@ pub fn put_name(name: &[u8], out: &mut Sql) -> Result<(), NoMemory> {
 }
 
 /// Appends the front of a name, `$` and a number, where the number is not 0: no name of ongq has a `$`.
-pub fn put_marked(name: &[u8], mark: usize, out: &mut Sql) -> Result<(), NoMemory> {
-    out.put("\"")?;
-    out.put_bytes(&name[..name.len().min(ROOM)])?;
+pub fn put_marked(name: &[u8], mark: usize, out: &mut Sql) {
+    out.put("\"");
+    out.put_bytes(&name[..name.len().min(ROOM)]);
     if mark > 0 {
-        out.put("$")?;
-        out.number(mark)?;
+        out.put("$");
+        out.number(mark);
     }
     out.put("\"")
 }
 
 /// Appends the name of a table. One that PostgreSQL cannot take is cut, and told from others by a sum of its bytes. Of
 /// two with one sum PostgreSQL refuses the second.
-pub fn put_table(name: &Name, out: &mut Sql) -> Result<(), NoMemory> {
+pub fn put_table(name: &Name, out: &mut Sql) {
     let bytes = name.bytes();
     if may_be_table(bytes) {
         return put_name(bytes, out);
@@ -232,14 +231,14 @@ pub fn put_table(name: &Name, out: &mut Sql) -> Result<(), NoMemory> {
 const ROOM_BESIDE: usize = 40;
 
 /// Appends the name of what belongs to a table, which has no more than 8 letters behind `$`.
-pub fn put_beside(name: &Name, word: &str, out: &mut Sql) -> Result<(), NoMemory> {
+pub fn put_beside(name: &Name, word: &str, out: &mut Sql) {
     let bytes = name.bytes();
-    out.put_bytes(&bytes[..bytes.len().min(ROOM_BESIDE)])?;
+    out.put_bytes(&bytes[..bytes.len().min(ROOM_BESIDE)]);
     if bytes.len() > ROOM_BESIDE {
-        out.put("$")?;
-        out.number(sum_of(bytes))?;
+        out.put("$");
+        out.number(sum_of(bytes));
     }
-    out.put("$")?;
+    out.put("$");
     out.put(word)
 }
 

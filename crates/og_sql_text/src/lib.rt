@@ -11,6 +11,7 @@ mod dollars;
 mod expressions;
 mod identifiers;
 mod parts;
+mod quotes;
 mod sight;
 mod sql;
 
@@ -19,5 +20,6 @@ pub use dollars::put_dollars;
 pub use expressions::{put_expr, put_value};
 pub use identifiers::{put_beside, put_table};
 pub use parts::{has_days, has_key, outer_place, parts_in, put_outer, put_products, put_tests};
+pub use quotes::{write_comment, write_quoted};
 pub use sight::{Sight, is_steady_kind};
 pub use sql::Sql;

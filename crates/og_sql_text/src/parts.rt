@@ -4,7 +4,6 @@ use crate::conditions::{is_steady, put_days, put_truth};
 use crate::expressions::put_expr;
 use crate::sight::Sight;
 use crate::sql::Sql;
-use og_base::NoMemory;
 use og_query::{Cond, Expr};
 use og_value::{Cmp, Pred};
 use std::slice;
@@ -28,19 +27,18 @@ pub fn has_days(parts: &[Cond], sight: Sight<'_>) -> bool {
 }
 
 /// Appends ` * ` and the days of each part that depends on the day.
-pub fn put_products(parts: &[Cond], sight: Sight<'_>, out: &mut Sql) -> Result<(), NoMemory> {
+pub fn put_products(parts: &[Cond], sight: Sight<'_>, out: &mut Sql) {
     'parts: for part in parts {
-        put_product(part, sight, out)?;
+        put_product(part, sight, out);
     }
-    Ok(())
 }
 
 // Appends the days of a part that depends on the day.
-fn put_product(part: &Cond, sight: Sight<'_>, out: &mut Sql) -> Result<(), NoMemory> {
+fn put_product(part: &Cond, sight: Sight<'_>, out: &mut Sql) {
     if is_steady(part, sight) {
-        return Ok(());
+        return;
     }
-    out.put(" * ")?;
+    out.put(" * ");
     put_days(part, sight, out)
 }
 
@@ -51,26 +49,21 @@ pub fn put_tests(
     parts: &[Cond],
     sight: Sight<'_>,
     out: &mut Sql,
-) -> Result<&'static str, NoMemory> {
+) -> &'static str {
     let mut word = first;
     'parts: for part in parts {
-        word = put_test(word, part, sight, out)?;
+        word = put_test(word, part, sight, out);
     }
-    Ok(word)
+    word
 }
 
 // Appends the truth of a part, where it has one: of one on numbers and texts the part itself, of an overlap of
 // two columns that the bounds of their dates do.
-fn put_test(
-    word: &'static str,
-    part: &Cond,
-    sight: Sight<'_>,
-    out: &mut Sql,
-) -> Result<&'static str, NoMemory> {
+fn put_test(word: &'static str, part: &Cond, sight: Sight<'_>, out: &mut Sql) -> &'static str {
     if is_steady(part, sight) {
-        out.put(word)?;
-        put_truth(part, sight, out)?;
-        return Ok(" AND ");
+        out.put(word);
+        put_truth(part, sight, out);
+        return " AND ";
     }
     let Cond::Relate {
         pred: Pred::Overlaps,
@@ -78,21 +71,21 @@ fn put_test(
         right: Expr::Column(right),
     } = part
     else {
-        return Ok(word);
+        return word;
     };
-    out.put(word)?;
-    put_bound(*left, *right, sight, out)?;
-    out.put(" AND ")?;
-    put_bound(*right, *left, sight, out)?;
-    Ok(" AND ")
+    out.put(word);
+    put_bound(*left, *right, sight, out);
+    out.put(" AND ");
+    put_bound(*right, *left, sight, out);
+    " AND "
 }
 
 // Appends that the one period starts on some day before the other ends on some day.
-fn put_bound(start: usize, end: usize, sight: Sight<'_>, out: &mut Sql) -> Result<(), NoMemory> {
-    out.put("(")?;
-    sight.put_column(start, out)?;
-    out.put(").start_low < (")?;
-    sight.put_column(end, out)?;
+fn put_bound(start: usize, end: usize, sight: Sight<'_>, out: &mut Sql) {
+    out.put("(");
+    sight.put_column(start, out);
+    out.put(").start_low < (");
+    sight.put_column(end, out);
     out.put(").end_high")
 }
 
@@ -125,15 +118,15 @@ pub fn put_outer(
     parts: &[Cond],
     sight: Sight<'_>,
     out: &mut Sql,
-) -> Result<&'static str, NoMemory> {
+) -> &'static str {
     'parts: for part in parts {
         if let Some((left, right)) = overlap_of(part, sight) {
-            out.put(word)?;
-            put_outer_of(left, right, sight, out)?;
-            return Ok(" AND ");
+            out.put(word);
+            put_outer_of(left, right, sight, out);
+            return " AND ";
         }
     }
-    Ok(word)
+    word
 }
 
 // The two columns, where the part asks whether one of each row overlap.
@@ -162,15 +155,10 @@ pub fn outer_place(parts: &[Cond], sight: Sight<'_>) -> Option<usize> {
 }
 
 // Appends the test of the outer ranges of two columns.
-fn put_outer_of(
-    left: &Expr,
-    right: &Expr,
-    sight: Sight<'_>,
-    out: &mut Sql,
-) -> Result<(), NoMemory> {
-    out.put("outer(")?;
-    put_expr(left, sight, out)?;
-    out.put(") && outer(")?;
-    put_expr(right, sight, out)?;
+fn put_outer_of(left: &Expr, right: &Expr, sight: Sight<'_>, out: &mut Sql) {
+    out.put("outer(");
+    put_expr(left, sight, out);
+    out.put(") && outer(");
+    put_expr(right, sight, out);
     out.put(")")
 }

@@ -2,7 +2,6 @@
 
 use crate::columns::Columns;
 use crate::sql::Sql;
-use og_base::NoMemory;
 use og_query::Expr;
 use og_value::{Kind, Value};
 
@@ -20,12 +19,12 @@ impl<'a> Sight<'a> {
     }
 
     /// Appends the column at that place.
-    pub fn put_column(&self, place: usize, out: &mut Sql) -> Result<(), NoMemory> {
+    pub fn put_column(&self, place: usize, out: &mut Sql) {
         if self.is_left(place) {
-            out.put("l.")?;
+            out.put("l.");
             return self.left.put(place, out);
         }
-        out.put("r.")?;
+        out.put("r.");
         self.right.put(place.saturating_sub(self.left.len()), out)
     }
 

@@ -11,6 +11,6 @@ returns-clause-ends c start contents before folder held = (
   refl,
   refl,
   subst (λ o. IsOutlineOf o (before ++ saved c.args.name.now c.args.file.now ∷ [])) (sym c.in_ok-save.ensures)
-      (c.one_file_in_outline.ensures.saved c.args.outline.now before c.args.number c.args.name.now c.args.file.now _ held.outline
+      (c.one_file_in_outline.ensures.saved c.args.outline.now before c.args.context.number c.args.name.now c.args.file.now _ held.outline
       (schema_known (known_of c.args.outline.now.names c.args.name.now) _ (sym c.in-Some.ensures ∙ ap Some (sym c.in_ok-schema.ensures)))),
 )

@@ -10,7 +10,7 @@ use Rattle.og_sql.proofs.pieces.put_pieces.Goals as goal
 
 pub stmts-init : goal.stmts-init
 stmts-init g c = record {
-  at = λ start contents told holds. at_start contents start c.args.stmts c.args.outline.now _ c.args.text.now holds told (subst (λ o. IsOutlineOf o []) (sym c.requires.no_names) c.no_outline.ensures) c.requires.no_text;
+  at = λ start contents told holds. at_start contents start c.args.stmts c.args.outline.now _ c.args.text.now.items holds told (subst (λ o. IsOutlineOf o []) (sym c.requires.no_names) c.no_outline.ensures) c.requires.no_text;
   left = ap reverse c.in_ok-left.ensures ∙ reverse-reverse c.args.stmts;
   files = refl;
 }
@@ -18,12 +18,12 @@ stmts-init g c = record {
 pub returns-in_err-read-clause-carried : goal.returns-in_err-read-clause-carried
 returns-in_err-read-clause-carried g c start contents told holds =
     let p = err_from_is_err_and c.from_residual.result c.from_residual.ensures.1 in
-    rw (p.1, p.2) (not_begun c.args.stmts (run_from contents 1 [] c.args.stmts) c.args.text.now _ c.requires.no_text ((run_from contents 1 [] c.args.stmts).done, refl))
+    rw (p.1, p.2) (not_begun c.args.stmts (run_from contents 1 [] c.args.stmts) c.args.text.now.items _ c.requires.no_text ((run_from contents 1 [] c.args.stmts).done, refl))
 
 pub returns-in_err-left-clause-carried : goal.returns-in_err-left-clause-carried
 returns-in_err-left-clause-carried g c start contents told holds =
     let p = err_from_is_err_and c.from_residual-in_err-left.result c.from_residual-in_err-left.ensures.1 in
-    rw (p.1, p.2) (not_begun c.args.stmts (run_from contents 1 [] c.args.stmts) c.args.text.now _ c.requires.no_text ((run_from contents 1 [] c.args.stmts).done, refl))
+    rw (p.1, p.2) (not_begun c.args.stmts (run_from contents 1 [] c.args.stmts) c.args.text.now.items _ c.requires.no_text ((run_from contents 1 [] c.args.stmts).done, refl))
 
 pub returns-in_err-put_piece-clause-carried : goal.returns-in_err-put_piece-clause-carried
 returns-in_err-put_piece-clause-carried g c start contents told holds =
@@ -31,7 +31,7 @@ returns-in_err-put_piece-clause-carried g c start contents told holds =
     let at = c.stmts.invariant.at start contents told holds in
     let next = left_first c.args.stmts c.stmts.place (subst (λ n. c.stmts.place < n) (ap length c.in_ok-left.ensures ∙ length-reverse c.args.stmts) (search rules)) in
     rw (p.1, p.2)
-    (turn-stopped contents start c.args.stmts c.stmts.place (c.stmts.place + 1) (omega arith) c.stmts.outline _ c.stmts.text at next.0 next.1 next.2 c.put_piece.new.outline c.put_piece.new.text c.in_err-put_piece.field-0.0
+    (turn-stopped contents start c.args.stmts c.stmts.place (c.stmts.place + 1) (omega arith) c.stmts.outline _ c.stmts.text.items at next.0 next.1 next.2 c.put_piece.new.outline c.put_piece.new.text.items c.in_err-put_piece.field-0.0
     c.in_err-put_piece.ensures.kept (c.in_err-put_piece.ensures.ends next.0 next.1 (c.stmts.invariant.left ∙ next.2) start contents at.before at.held))
 
 pub returns-in_err-put_piece-clause-files : goal.returns-in_err-put_piece-clause-files
@@ -55,7 +55,7 @@ stmts-preserved g c =
     record {
       at = λ start contents told holds.
           let at = c.stmts.invariant.at start contents told holds in
-          turn-more contents start stmts place (place + 1) (omega arith) c.stmts.outline _ c.stmts.text at next.0 next.1 next.2 c.put_piece.new.outline _ c.put_piece.new.text after
+          turn-more contents start stmts place (place + 1) (omega arith) c.stmts.outline _ c.stmts.text.items at next.0 next.1 next.2 c.put_piece.new.outline _ c.put_piece.new.text.items after
           (c.in_ok-put_piece.ensures.folder start at.held.files) (c.in_ok-put_piece.ensures.under next.0 next.1 left) (c.in_ok-put_piece.ensures.ends next.0 next.1 left start contents at.before at.held);
       left = c.in_ok-put_piece.ensures.left next.0 next.1 left ∙ sym after;
       files = c.in_ok-put_piece.ensures.files ∙ c.stmts.invariant.files;
@@ -63,5 +63,5 @@ stmts-preserved g c =
 
 pub returns-clause-carried : goal.returns-clause-carried
 returns-clause-carried g c start contents told holds =
-    turn-last contents start c.args.stmts c.stmts.place c.stmts.outline _ c.stmts.text (c.stmts.invariant.at start contents told holds)
+    turn-last contents start c.args.stmts c.stmts.place c.stmts.outline _ c.stmts.text.items (c.stmts.invariant.at start contents told holds)
     (subst (λ n. n ≤ c.stmts.place) (ap length c.in_ok-left.ensures ∙ length-reverse c.args.stmts) (search rules))

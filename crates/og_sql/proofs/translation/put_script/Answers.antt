@@ -21,7 +21,7 @@ returns-in_err-stmts-clause-carried g c source start it stmts left folder define
       one_parse_fault = c.tree_or_fault.ensures.one_fault;
     } in
     rw (p.1, p.2)
-    (script-stopped laws c.one_command.ensures source start stmts it defined are c.in_err-stmts.field-0.0 c.args.text.now c.in_err-stmts.ensures.stops (c.in_err-stmts.ensures.stopped source (λ _. left)) c.requires.no_text)
+    (script-stopped laws c.one_command.ensures source start stmts it defined are c.in_err-stmts.field-0.0 c.args.text.now.items c.in_err-stmts.ensures.stops (c.in_err-stmts.ensures.stopped source (λ _. left)) c.requires.no_text)
 
 pub returns-clause-carried : goal.returns-clause-carried
 returns-clause-carried g c source start it stmts left folder defined are =
@@ -35,5 +35,5 @@ returns-clause-carried g c source start it stmts left folder defined are =
     } in
     let read = c.in_ok-stmts.stmts in
     let (contents, holds, e, same) = script-read laws c.one_command.ensures source start stmts it defined are read (c.in_ok-stmts.ensures.script source (λ _. left)) in
-    subst (λ r. IsCarried stmts r c.put_pieces.result c.put_pieces.new.text) (sym e)
-    (subst (λ s. IsCarried s (run_from contents 1 [] read) c.put_pieces.result c.put_pieces.new.text) (sym same) (c.put_pieces.ensures.carried start contents folder holds))
+    subst (λ r. IsCarried stmts r c.put_pieces.result c.put_pieces.new.text.items) (sym e)
+    (subst (λ s. IsCarried s (run_from contents 1 [] read) c.put_pieces.result c.put_pieces.new.text.items) (sym same) (c.put_pieces.ensures.carried start contents folder holds))
