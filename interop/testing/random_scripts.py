@@ -35,13 +35,8 @@ def keyed_core(maker: cases.Maker, core: cases.Core) -> cases.Core:
 
 
 def keyed(maker: cases.Maker, made: cases.Case) -> cases.Case:
-    """The case without products: its tables are joined by keys or overlaps, and its answers have a number first."""
-    cores = [keyed_core(maker, core) for core in made.cores]
-    if set(made.operators) & {"EXCEPT", "INTERSECT"} and made.kinds[0] != "INT":
-        columns = [[(f"{alias}.{name}_int", "INT") for name, alias in core.tables] for core in cores]
-        cores = [core._replace(items=[maker.expression("INT", its), *core.items[1:]]) for core, its in zip(cores, columns)]
-        made = made._replace(kinds=["INT", *made.kinds[1:]])
-    return made._replace(cores=cores)
+    """The case without products: its tables are joined by keys or overlaps."""
+    return made._replace(cores=[keyed_core(maker, core) for core in made.cores])
 
 
 class Script:

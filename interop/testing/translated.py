@@ -38,9 +38,7 @@ FULL_RANDOM = 2000
 # Cases that are left out, as PostgreSQL needs hours for them, by their names.
 EXISTS = "PostgreSQL looks through the whole query for each of hundreds of thousands of EXISTS"
 TOO_LARGE = {"a query may have 500000 EXISTS": EXISTS, "a query of 500000 EXISTS may be kept and dropped": EXISTS,
-             "the first of 500000 EXISTS may be met by no row": EXISTS, "400000 EXISTS may have a condition each": EXISTS,
-             "INTERSECT of 200,000 days a side has the common one, and now on a day of the other side":
-                 "rows without a number or a text are compared pair by pair"}
+             "the first of 500000 EXISTS may be met by no row": EXISTS, "400000 EXISTS may have a condition each": EXISTS}
 MANY_TABLES = 1000  # A database with more of them is made anew: a schema of many cannot be taken out at once.
 
 
@@ -205,7 +203,7 @@ class Psql:
         return bytes(out[:-len(end)])
 
 
-ASKED = re.compile(rb"^(CREATE (?:TABLE|VIEW) [^ ]+ AS\n)?WITH (?!rows\$|old\$).*?;\n", re.M | re.S)
+ASKED = re.compile(rb"^(CREATE (?:TEMP )?(?:TABLE|VIEW) [^ ]+ AS\n)?WITH (?!rows\$|old\$).*?;\n", re.M | re.S)
 SETTINGS = (b"enable_nestloop", b"enable_seqscan", b"enable_bitmapscan")
 
 

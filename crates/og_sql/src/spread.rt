@@ -7,7 +7,9 @@ use og_outline::Outline;
 use og_plan::{fitting_queries, plan_of};
 use og_query::Query;
 use og_sql_live::{put_live_end, put_live_table};
-use og_sql_query::{put_ordered_query, put_print_asked, put_print_query, put_query};
+use og_sql_query::{
+    put_ordered_query, put_print_asked, put_print_query, put_query, put_sides, put_sides_end,
+};
 use og_sql_rows::Way;
 use og_sql_spread::{
     Asked, At, Part, Why, part_of, put_ask, put_count, put_distribute, put_forget, put_gone,
@@ -69,7 +71,9 @@ pub fn put_kept(target: &Target, name: &Name, query: &Query, outline: &Outline, 
     let part = put_before(target, query, outline, out);
     if part.at != At::Nodes {
         let select = kept_text(way, query, out.alloc());
-        return put_selected(way, name, schema, &select, out);
+        put_sides(query, out);
+        put_selected(way, name, schema, &select, out);
+        return put_sides_end(query, out);
     }
     let select = query_text(query, out.alloc());
     match way {

@@ -9,7 +9,7 @@ use og_outline::Outline;
 use og_output::names_text;
 use og_plan::{explain, fitting_queries, plan_of};
 use og_query::{Query, Typed};
-use og_sql_query::{put_print_name, put_query};
+use og_sql_query::{put_print_name, put_query, put_sides, put_sides_end};
 use og_sql_rows::{Way, put_delete, put_insert, put_update, put_valid};
 use og_sql_text::Sql;
 use og_sql_words::{ExplainForm, Target};
@@ -101,9 +101,11 @@ fn put_explain(target: &Target, query: &Query, out: &mut Sql)
     requires fits { (schemas : Schemas) × IsFitQuery schemas query.now }
 {
     if target.explain == ExplainForm::PostgreSql {
+        put_sides(query, out);
         out.put("EXPLAIN\n");
         put_query(query, out);
-        return out.put(";\n");
+        out.put(";\n");
+        return put_sides_end(query, out);
     }
     let text = plan_text(query, out.alloc());
     if let Some(text) = out.made(text) {

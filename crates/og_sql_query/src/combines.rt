@@ -2,6 +2,7 @@
 
 use crate::node::{Count, Node, Source};
 use crate::semis::{put_met, put_numbered};
+use crate::sides::{have_no_key, put_days};
 use og_sql_text::{Columns, Sql, is_steady_kind};
 use og_value::{Kind, SetOp};
 
@@ -62,7 +63,14 @@ fn put_compared(
         columns: answer.copy(out),
     };
     let base = put_numbered(input, count, out);
-    let others = put_others(right, answer, count, out);
+    let others = if have_no_key(answer) {
+        Node {
+            source: right.source.copy(out),
+            columns: answer.copy(out),
+        }
+    } else {
+        put_others(right, answer, count, out)
+    };
     let hits = put_same(&base, &others, answer, count, out);
     put_met(base, &hits, is_positive, count, out)
 }
@@ -114,6 +122,12 @@ fn put_same_days(answer: &Columns, out: &mut Sql) {
 
 // Appends that the numbers and texts of both rows are equal, and that their days may be.
 fn put_same_tests(answer: &Columns, out: &mut Sql) {
+    if have_no_key(answer) {
+        put_days(answer, "l.", out);
+        out.put(" && ");
+        put_days(answer, "r.", out);
+        out.put(" AND ");
+    }
     'columns: for i in 0..answer.len() {
         out.put(if i > 0 { " AND " } else { "" });
         match answer.kind(i) {

@@ -12,6 +12,7 @@ mod plans;
 mod queries;
 mod selects;
 mod semis;
+mod sides;
 
 pub use node::{Count, Node, Source};
 pub use queries::{
@@ -19,3 +20,4 @@ pub use queries::{
     put_values_at,
 };
 pub use selects::{plan_of_select, put_select, select_at};
+pub use sides::{put_sides, put_sides_end};

@@ -15,6 +15,8 @@ pub enum Source {
     Part { word: &'static str, number: usize },
     /// The rows that a trigger has under that word.
     Changed { word: &'static str },
+    /// The table of the right side of the set operator with that number, counted from 1.
+    Side { number: usize },
 }
 
 /// What a node of a plan gives: the name and the columns of its rows. Their days stand in the column `days`.
@@ -32,6 +34,7 @@ impl Source {
             Source::Asked => out.put("parts.asked$"),
             Source::Part { word, number } => put_part(word, *number, out),
             Source::Changed { word } => put_word(word, out),
+            Source::Side { number } => put_part("side", *number, out),
         }
     }
 
@@ -53,6 +56,7 @@ impl Source {
                 number: *number,
             },
             Source::Changed { word } => Source::Changed { word: *word },
+            Source::Side { number } => Source::Side { number: *number },
         }
     }
 }
@@ -80,6 +84,8 @@ fn put_part(word: &str, number: usize, out: &mut Sql) {
 #[derive(Drop)]
 pub struct Count {
     parts: usize,
+    // The set operators whose left sides were written.
+    combined: usize,
     // The places of FROM that were written.
     scans: usize,
     // What each place reads instead of its table.
@@ -105,6 +111,7 @@ impl Count {
     pub fn new(alloc: Global) -> Count {
         Count {
             parts: 0,
+            combined: 0,
             scans: 0,
             places: Vec::new(alloc),
             is_indexed: false,
@@ -122,6 +129,12 @@ impl Count {
     /// Whether texts are found by their numbers.
     pub fn is_indexed(&self) -> bool {
         self.is_indexed
+    }
+
+    /// The number of the next set operator, counted from 1.
+    pub fn next_combined(&mut self) -> usize {
+        self.combined = self.combined.saturating_add(1);
+        self.combined
     }
 
     /// What the next place of FROM reads, at which the table stands.

@@ -4,6 +4,7 @@ use crate::combines::put_combine;
 use crate::joins::{put_join, put_product};
 use crate::node::{Count, Node};
 use crate::semis::put_semis;
+use crate::sides::side_of;
 use og_plan::Plan;
 use og_query::{Cond, Expr};
 use og_sql_text::{Columns, Sight, Sql, has_days, put_expr, put_products, put_tests};
@@ -33,7 +34,13 @@ pub fn put_plan(plan: &Plan, answer: &Columns, count: &mut Count, out: &mut Sql)
         | Plan::OverlapJoin { left, right, .. }
         | Plan::Combine { left, right, .. } => {
             let one = put_plan(left.get(), answer, count, out);
-            let two = put_plan(right.get(), answer, count, out);
+            let two = match side_of(plan, answer, count) {
+                Some(source) => Node {
+                    source,
+                    columns: answer.copy(out),
+                },
+                None => put_plan(right.get(), answer, count, out),
+            };
             put_two(plan, &one, &two, answer, count, out)
         }
     }

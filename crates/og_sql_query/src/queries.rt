@@ -3,13 +3,15 @@ ghost use Rattle.og_query.specs.Fits.{IsFitQuery, Schemas};
 
 use crate::node::{Count, Node, Source};
 use crate::plans::put_plan;
+use crate::sides::{put_sides, put_sides_end};
 use og_base::{ExtDay, NoMemory, RefDay};
 use og_plan::{fitting_queries, plan_of};
 use og_query::Query;
 use og_sql_text::{Columns, Sql};
 use og_value::{Kind, Name, Schema};
 
-/// Appends the WITH of a query, which fits its tables, and the SELECT of its rows with their days. Where memory runs out
+/// Appends the WITH of a query, which fits its tables, and the SELECT of its rows with their days. The tables that
+/// `put_sides` appends stand before it. Where memory runs out
 /// the text is cut.
 pub fn put_query(query: &Query, out: &mut Sql)
     requires fits { (schemas : Schemas) × IsFitQuery schemas query.now }
@@ -51,11 +53,13 @@ fn put_parts(query: &Query, count: &mut Count, out: &mut Sql) -> Option<Node>
 pub fn put_print_query(query: &Query, day: RefDay, out: &mut Sql)
     requires fits { (schemas : Schemas) × IsFitQuery schemas query.now }
 {
+    put_sides(query, out);
     put_header(&query.first.schema, out);
     let mut count = Count::new(out.alloc());
     if let Some(node) = put_parts(query, &mut count, out) {
         put_printed(&node, day, &mut count, out);
     }
+    put_sides_end(query, out);
 }
 
 /// Appends the SELECTs that print the rows of a name on the day. Where memory runs out the text is cut.
