@@ -1,7 +1,6 @@
 //! The join on columns that are equal.
 ghost use Rattle.std.specs.Prelude.{◌≡◌, ◌≤◌, ◌*◌, ◌++◌, ◌&&◌, ℤ, [], IfOk, length};
 ghost use Rattle.og_base.specs.Calendar.{IsRefDay};
-ghost use Rattle.og_par.specs.Limits.{max_workers};
 ghost use Rattle.og_value.specs.Values.{row_at, value_at};
 ghost use Rattle.og_plan.specs.Meaning.{all_hold, column, matches};
 ghost use Rattle.og_exec.specs.Answers.{rel_of};
@@ -18,7 +17,7 @@ use og_base::NoMemory;
 use og_expr::PartDays;
 use og_join::{Keys, key_join_with, key_span_join};
 use og_ops::PairMap;
-use og_par::Gate;
+use og_par::{Crew, Gate};
 use og_plan::ColPair;
 use og_query::Cond;
 use og_rel::Rel;
@@ -133,49 +132,36 @@ fn value_key(value: &Value) -> Result<FixedValue, NoMemory>
 
 // What the map makes of the combinations whose keys are equal and for which all parts hold.
 pub(crate) fn key_joined<'t, H: Threads + Sync, M: PairMap<Row> + Sync, G: Gate + Sync>(
-    rt: &H,
-    alloc: Global,
-    workers: usize,
+    crew: &Crew<'_, H, G>,
     inputs: Inputs<'_>,
     pairs: &Items<ColPair>,
     rest: &Items<Cond>,
     pair_map: &M,
-    gate: &G,
 ) -> Result<Answer<'t>, NoMemory>
-    requires least { 1 ≤ workers }
-    requires most { workers ≤ max_workers }
     ensures law { IfOk result (λ a. (d : ℤ) → IsRefDay d → rows_on (rel_of a) d
         ≡ images (M.image pair_map.now d) (matches (λ x y. meant.have_one_key pairs.now x y && all_hold d rest.now (x ++ y)) (rows_on (rel_of inputs.entry.left) d) (rows_on (rel_of inputs.entry.right) d))) }
     ensures size { IfOk result (λ a. length (rel_of a) ≤ length (rel_of inputs.entry.left) * length (rel_of inputs.entry.right)) }
 {
     made(columns_joined(
-        rt,
-        alloc,
-        workers,
+        crew,
         inputs.left.rel(),
         inputs.right.rel(),
         pairs,
         rest,
         pair_map,
-        gate,
     ))
 }
 
 // The same of two relations. Where some part says that periods of both rows overlap, they are tried by
 // the spans of these.
 fn columns_joined<H: Threads + Sync, M: PairMap<Row> + Sync, G: Gate + Sync>(
-    rt: &H,
-    alloc: Global,
-    workers: usize,
+    crew: &Crew<'_, H, G>,
     left: &Rel<Row>,
     right: &Rel<Row>,
     pairs: &Items<ColPair>,
     rest: &Items<Cond>,
     pair_map: &M,
-    gate: &G,
 ) -> Result<Rel<Row>, NoMemory>
-    requires least { 1 ≤ workers }
-    requires most { workers ≤ max_workers }
     ensures law { IfOk result (λ r. (d : ℤ) → IsRefDay d → rows_on r d
         ≡ images (M.image pair_map.now d) (matches (λ x y. meant.have_one_key pairs.now x y && all_hold d rest.now (x ++ y)) (rows_on left.now d) (rows_on right.now d))) }
     ensures size { IfOk result (λ r. length r ≤ length left.now * length right.now) }
@@ -185,15 +171,11 @@ fn columns_joined<H: Threads + Sync, M: PairMap<Row> + Sync, G: Gate + Sync>(
     let cond = PartDays { parts: rest };
     let width = first_width(left);
     let Some(pair) = columns_that_overlap(width, rest) else {
-        return key_join_with(
-            rt, alloc, workers, left, right, &keys, &cond, pair_map, gate,
-        );
+        return key_join_with(crew, left, right, &keys, &cond, pair_map);
     };
     let spans = ColumnSpans {
         pair: &pair,
         known: are_as_wide(left, width),
     };
-    key_span_join(
-        rt, alloc, workers, left, right, &keys, &spans, &cond, pair_map, gate,
-    )
+    key_span_join(crew, left, right, &keys, &spans, &cond, pair_map)
 }

@@ -1,7 +1,6 @@
 //! The nodes of a plan that filter, multiply or project rows.
 ghost use Rattle.std.specs.Prelude.{◌≡◌, ◌≤◌, ◌*◌, ℤ, true, IfOk, length, filter};
 ghost use Rattle.og_base.specs.Calendar.{IsRefDay};
-ghost use Rattle.og_par.specs.Limits.{max_workers};
 ghost use Rattle.og_query.specs.Queries.{image};
 ghost use Rattle.og_plan.specs.Meaning.{all_hold, matches};
 ghost use Rattle.og_exec.specs.Answers.{rel_of};
@@ -12,7 +11,7 @@ use crate::answer::{Answer, Inputs, made};
 use og_base::NoMemory;
 use og_expr::{ItemMap, PartDays};
 use og_ops::{BinaryOp, Product, Project, Select};
-use og_par::Gate;
+use og_par::{Crew, Gate};
 use og_query::{Cond, Expr};
 use og_value::{Row, order_of_rows};
 use sqlite_items::Items;
@@ -21,21 +20,16 @@ use std::thread::Threads;
 
 // The rows for which all parts hold.
 pub(crate) fn filtered<'t, H: Threads + Sync, G: Gate + Sync>(
-    rt: &H,
-    alloc: Global,
-    workers: usize,
+    crew: &Crew<'_, H, G>,
     input: Answer<'_>,
     parts: &Items<Cond>,
-    gate: &G,
 ) -> Result<Answer<'t>, NoMemory>
-    requires least { 1 ≤ workers }
-    requires most { workers ≤ max_workers }
     ensures law { IfOk result (λ a. (d : ℤ) → IsRefDay d → rows_on (rel_of a) d ≡ filter (all_hold d parts.now) (rows_on (rel_of input.entry) d)) }
     ensures size { IfOk result (λ a. length (rel_of a) ≤ length (rel_of input.entry)) }
 {
     order_of_rows();
     let cond = PartDays { parts };
-    made(Select { cond }.apply_by_workers(rt, alloc, workers, input.rel(), gate))
+    made(Select { cond }.apply_by_workers(crew, input.rel()))
 }
 
 // All combinations of a left and a right row.
@@ -49,15 +43,10 @@ pub(crate) fn multiplied<'t>(alloc: Global, inputs: Inputs<'_>) -> Result<Answer
 
 // The images of the rows.
 pub(crate) fn projected<'t, H: Threads + Sync, G: Gate + Sync>(
-    rt: &H,
-    alloc: Global,
-    workers: usize,
+    crew: &Crew<'_, H, G>,
     input: Answer<'_>,
     items: &Items<Expr>,
-    gate: &G,
 ) -> Result<Answer<'t>, NoMemory>
-    requires least { 1 ≤ workers }
-    requires most { workers ≤ max_workers }
     ensures law { IfOk result (λ a. (d : ℤ) → IsRefDay d → rows_on (rel_of a) d ≡ images (image d items.now) (rows_on (rel_of input.entry) d)) }
     ensures size { IfOk result (λ a. length (rel_of a) ≤ length (rel_of input.entry)) }
 {
@@ -65,5 +54,5 @@ pub(crate) fn projected<'t, H: Threads + Sync, G: Gate + Sync>(
     let items = ItemMap {
         items: items.as_slice(),
     };
-    made(Project { items }.apply_by_workers(rt, alloc, workers, input.rel(), gate))
+    made(Project { items }.apply_by_workers(crew, input.rel()))
 }

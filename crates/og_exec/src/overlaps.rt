@@ -2,7 +2,6 @@
 ghost use Rattle.std.specs.Prelude.{◌≡◌, ◌≤◌, ◌*◌, ◌++◌, ◌&&◌, ◌+◌, ◌<◌, ℤ, true, IfOk, length};
 ghost use Rattle.std.specs.List.{All};
 ghost use Rattle.og_base.specs.Calendar.{IsRefDay};
-ghost use Rattle.og_par.specs.Limits.{max_workers};
 ghost use Rattle.og_value.specs.declared.term.Pred.TheVariants as preds;
 ghost use Rattle.og_query.specs.declared.condition.Cond.TheVariants as conds;
 ghost use Rattle.og_query.specs.declared.expression.Expr.TheVariants as exprs;
@@ -19,67 +18,54 @@ use og_base::NoMemory;
 use og_expr::{CondDays, PartDays};
 use og_join::overlap_join_with;
 use og_ops::PairMap;
-use og_par::Gate;
+use og_par::{Crew, Gate};
 use og_plan::ColPair;
 use og_query::{Cond, Expr};
 use og_rel::Rel;
 use og_value::{Pred, Row, order_of_rows};
 use sqlite_items::Items;
-use std::alloc::Global;
 use std::thread::Threads;
 
 // What the map makes of the combinations whose periods overlap and for which the rest holds, where each
 // left row has so many values.
 pub(crate) fn overlap_joined<'t, H: Threads + Sync, M: PairMap<Row> + Sync, G: Gate + Sync>(
-    rt: &H,
-    alloc: Global,
-    workers: usize,
+    crew: &Crew<'_, H, G>,
     inputs: Inputs<'_>,
     width: usize,
     pair: &ColPair,
     rest: &Items<Cond>,
     pair_map: &M,
-    gate: &G,
 ) -> Result<Answer<'t>, NoMemory>
-    requires least { 1 ≤ workers }
-    requires most { workers ≤ max_workers }
     ensures law { IfOk result (λ a. (d : ℤ) → IsRefDay d → All (λ x. length x ≡ width) (rows_on (rel_of inputs.entry.left) d) → rows_on (rel_of a) d
         ≡ images (M.image pair_map.now d) (matches (λ x y. do_overlap x y pair.now && all_hold d rest.now (x ++ y)) (rows_on (rel_of inputs.entry.left) d) (rows_on (rel_of inputs.entry.right) d))) }
     ensures size { IfOk result (λ a. length (rel_of a) ≤ length (rel_of inputs.entry.left) * length (rel_of inputs.entry.right)) }
 {
     made(pair_joined(
-        rt,
-        alloc,
-        workers,
+        crew,
         inputs.left.rel(),
         inputs.right.rel(),
         width,
         pair,
         rest,
         pair_map,
-        gate,
     ))
 }
 
 // The same of two relations.
 fn pair_joined<H: Threads + Sync, M: PairMap<Row> + Sync, G: Gate + Sync>(
-    rt: &H,
-    alloc: Global,
-    workers: usize,
+    crew: &Crew<'_, H, G>,
     left: &Rel<Row>,
     right: &Rel<Row>,
     width: usize,
     pair: &ColPair,
     rest: &Items<Cond>,
     pair_map: &M,
-    gate: &G,
 ) -> Result<Rel<Row>, NoMemory>
-    requires least { 1 ≤ workers }
-    requires most { workers ≤ max_workers }
     ensures law { IfOk result (λ r. (d : ℤ) → IsRefDay d → All (λ x. length x ≡ width) (rows_on left.now d) → rows_on r d
         ≡ images (M.image pair_map.now d) (matches (λ x y. do_overlap x y pair.now && all_hold d rest.now (x ++ y)) (rows_on left.now d) (rows_on right.now d))) }
     ensures size { IfOk result (λ r. length r ≤ length left.now * length right.now) }
 {
+    let alloc = crew.alloc();
     // A row has no period in a column that it has not.
     if pair.left >= width {
         return Ok(Rel::new(alloc));
@@ -89,17 +75,13 @@ fn pair_joined<H: Threads + Sync, M: PairMap<Row> + Sync, G: Gate + Sync>(
         pair,
         known: are_as_wide(left, width),
     };
-    columns_joined(
-        rt, alloc, workers, left, right, width, place, &spans, rest, pair_map, gate,
-    )
+    columns_joined(crew, left, right, width, place, &spans, rest, pair_map)
 }
 
 // What the map makes of the combinations for which the periods in the two columns of the glued row overlap
 // and the rest holds.
 fn columns_joined<H: Threads + Sync, M: PairMap<Row> + Sync, G: Gate + Sync>(
-    rt: &H,
-    alloc: Global,
-    workers: usize,
+    crew: &Crew<'_, H, G>,
     left: &Rel<Row>,
     right: &Rel<Row>,
     width: usize,
@@ -107,10 +89,7 @@ fn columns_joined<H: Threads + Sync, M: PairMap<Row> + Sync, G: Gate + Sync>(
     spans: &ColumnSpans<'_>,
     rest: &Items<Cond>,
     pair_map: &M,
-    gate: &G,
 ) -> Result<Rel<Row>, NoMemory>
-    requires least { 1 ≤ workers }
-    requires most { workers ≤ max_workers }
     requires within { spans.now.pair.now.left < width }
     requires place { place ≡ width + spans.now.pair.now.right }
     requires known { spans.now.known ≡ true → All (λ p. length p.0 ≡ width) left.now }
@@ -121,18 +100,14 @@ fn columns_joined<H: Threads + Sync, M: PairMap<Row> + Sync, G: Gate + Sync>(
     order_of_rows();
     let cond = PartDays { parts: rest };
     if say_overlap(rest, spans.pair.left, place) {
-        return overlap_join_with(
-            rt, alloc, workers, left, right, spans, &cond, pair_map, gate,
-        );
+        return overlap_join_with(crew, left, right, spans, &cond, pair_map);
     }
     let overlap = overlap_of(spans.pair.left, place);
     let both = Both {
         first: CondDays { cond: &overlap },
         second: cond,
     };
-    let joined = overlap_join_with(
-        rt, alloc, workers, left, right, spans, &both, pair_map, gate,
-    );
+    let joined = overlap_join_with(crew, left, right, spans, &both, pair_map);
     drop(overlap);
     joined
 }

@@ -1,7 +1,6 @@
 //! The execution of plans.
 ghost use Rattle.std.specs.Prelude.{◌≡◌, ◌≤◌, ℤ, true, IfOk, length};
 ghost use Rattle.og_base.specs.Calendar.{IsRefDay};
-ghost use Rattle.og_par.specs.Limits.{max_workers};
 ghost use Rattle.og_rel.specs.Relations.{relation_at};
 ghost use Rattle.og_value.specs.Values.{row_at};
 ghost use Rattle.og_query.specs.Queries.{image};
@@ -22,28 +21,22 @@ use crate::semis::sifted;
 use crate::widths::width_of;
 use og_base::NoMemory;
 use og_ops::Whole;
-use og_par::Gate;
+use og_par::{Crew, Gate};
 use og_plan::Plan;
 use og_query::Expr;
 use og_rel::{Rel, Tables};
 use og_value::{FixedRow, Row, order_of_rows};
 use sqlite_items::{Boxed, Items};
-use std::alloc::Global;
 use std::thread::Threads;
 
 /// The answer of a plan on every day: on each it has the rows that the plan means over the tables of
 /// that day, and it has at most as many rows as the size of the plan says. Joins, filters, projections, set
 /// operators and EXISTS are shared out among the workers. Refused only for want of memory.
 pub fn exec<H: Threads + Sync, T: Tables<Row>, G: Gate + Sync>(
-    rt: &H,
-    alloc: Global,
+    crew: &Crew<'_, H, G>,
     plan: &Plan,
     tables: &T,
-    workers: usize,
-    gate: &G,
 ) -> Result<Rel<Row>, NoMemory>
-    requires least { 1 ≤ workers }
-    requires most { workers ≤ max_workers }
     requires sound { is_sound plan.now ≡ true }
     requires tables { AreThere (T.named tables.now) (scans_of plan.now) }
     ensures law { IfOk result (λ r. (d : ℤ) → IsRefDay d →
@@ -51,7 +44,7 @@ pub fn exec<H: Threads + Sync, T: Tables<Row>, G: Gate + Sync>(
     ensures size { IfOk result (λ r. length r ≤ plan_size (sizes_of (T.named tables.now)) plan.now) }
 {
     order_of_rows();
-    match answer_of(rt, alloc, plan, tables, workers, gate)? {
+    match answer_of(crew, plan, tables)? {
         Answer::Lent(rel) => rel.copy(),
         Answer::Made(rel) => Ok(rel),
     }
@@ -60,28 +53,24 @@ pub fn exec<H: Threads + Sync, T: Tables<Row>, G: Gate + Sync>(
 // The answer of a plan.
 #[cycle(answer_of)]
 fn answer_of<'t, H: Threads + Sync, T: Tables<Row>, G: Gate + Sync>(
-    rt: &H,
-    alloc: Global,
+    crew: &Crew<'_, H, G>,
     plan: &Plan,
     tables: &'t T,
-    workers: usize,
-    gate: &G,
 ) -> Result<Answer<'t>, NoMemory>
-    requires least { 1 ≤ workers }
-    requires most { workers ≤ max_workers }
     requires sound { is_sound plan.now ≡ true }
     requires tables { AreThere (T.named tables.now) (scans_of plan.now) }
     ensures law { IfOk result (λ a. (d : ℤ) → IsRefDay d → rows_on (rel_of a) d ≡ plan_rows d (rows_at (T.named tables.now) d) plan.now) }
     ensures size { IfOk result (λ a. length (rel_of a) ≤ plan_size (sizes_of (T.named tables.now)) plan.now) }
 {
+    let alloc = crew.alloc();
     match plan {
         Plan::Scan { name, .. } => Ok(lent(alloc, name, tables)),
         Plan::Filter { input, parts } => {
-            let input = answer_of(rt, alloc, input.get(), tables, workers, gate)?;
-            filtered(rt, alloc, workers, input, parts, gate)
+            let input = answer_of(crew, input.get(), tables)?;
+            filtered(crew, input, parts)
         }
         Plan::Product { left, right } => {
-            let inputs = both(rt, alloc, left, right, tables, workers, gate)?;
+            let inputs = both(crew, left, right, tables)?;
             multiplied(alloc, inputs)
         }
         Plan::KeyJoin {
@@ -90,8 +79,8 @@ fn answer_of<'t, H: Threads + Sync, T: Tables<Row>, G: Gate + Sync>(
             pairs,
             rest,
         } => {
-            let inputs = both(rt, alloc, left, right, tables, workers, gate)?;
-            key_joined(rt, alloc, workers, inputs, pairs, rest, &Whole, gate)
+            let inputs = both(crew, left, right, tables)?;
+            key_joined(crew, inputs, pairs, rest, &Whole)
         }
         Plan::OverlapJoin {
             left,
@@ -100,19 +89,17 @@ fn answer_of<'t, H: Threads + Sync, T: Tables<Row>, G: Gate + Sync>(
             rest,
         } => {
             let width = width_of(left.get())?;
-            let inputs = both(rt, alloc, left, right, tables, workers, gate)?;
-            overlap_joined(rt, alloc, workers, inputs, width, pair, rest, &Whole, gate)
+            let inputs = both(crew, left, right, tables)?;
+            overlap_joined(crew, inputs, width, pair, rest, &Whole)
         }
-        Plan::Project { input, items } => {
-            images_of(rt, alloc, input.get(), items, tables, workers, gate)
-        }
+        Plan::Project { input, items } => { images_of(crew, input.get(), items, tables) }
         Plan::Combine { op, left, right } => {
-            let inputs = both(rt, alloc, left, right, tables, workers, gate)?;
-            combined(rt, alloc, workers, *op, inputs, gate)
+            let inputs = both(crew, left, right, tables)?;
+            combined(crew, *op, inputs)
         }
         Plan::Semis { input, semis } => {
-            let input = answer_of(rt, alloc, input.get(), tables, workers, gate)?;
-            sifted(rt, alloc, workers, input, semis.as_slice(), tables, gate)
+            let input = answer_of(crew, input.get(), tables)?;
+            sifted(crew, input, semis.as_slice(), tables)
         }
     }
 }
@@ -121,16 +108,11 @@ fn answer_of<'t, H: Threads + Sync, T: Tables<Row>, G: Gate + Sync>(
 // without the glued rows.
 #[cycle(answer_of)]
 fn images_of<'t, H: Threads + Sync, T: Tables<Row>, G: Gate + Sync>(
-    rt: &H,
-    alloc: Global,
+    crew: &Crew<'_, H, G>,
     plan: &Plan,
     items: &Items<Expr>,
     tables: &'t T,
-    workers: usize,
-    gate: &G,
 ) -> Result<Answer<'t>, NoMemory>
-    requires least { 1 ≤ workers }
-    requires most { workers ≤ max_workers }
     requires sound { is_sound plan.now ≡ true }
     requires tables { AreThere (T.named tables.now) (scans_of plan.now) }
     ensures law { IfOk result (λ a. (d : ℤ) → IsRefDay d → rows_on (rel_of a) d ≡ images (image d items.now) (plan_rows d (rows_at (T.named tables.now) d) plan.now)) }
@@ -144,8 +126,8 @@ fn images_of<'t, H: Threads + Sync, T: Tables<Row>, G: Gate + Sync>(
             pairs,
             rest,
         } => {
-            let inputs = both(rt, alloc, left, right, tables, workers, gate)?;
-            key_joined(rt, alloc, workers, inputs, pairs, rest, &images, gate)
+            let inputs = both(crew, left, right, tables)?;
+            key_joined(crew, inputs, pairs, rest, &images)
         }
         Plan::OverlapJoin {
             left,
@@ -154,12 +136,12 @@ fn images_of<'t, H: Threads + Sync, T: Tables<Row>, G: Gate + Sync>(
             rest,
         } => {
             let width = width_of(left.get())?;
-            let inputs = both(rt, alloc, left, right, tables, workers, gate)?;
-            overlap_joined(rt, alloc, workers, inputs, width, pair, rest, &images, gate)
+            let inputs = both(crew, left, right, tables)?;
+            overlap_joined(crew, inputs, width, pair, rest, &images)
         }
         _ => {
-            let input = answer_of(rt, alloc, plan, tables, workers, gate)?;
-            projected(rt, alloc, workers, input, items, gate)
+            let input = answer_of(crew, plan, tables)?;
+            projected(crew, input, items)
         }
     }
 }
@@ -167,16 +149,11 @@ fn images_of<'t, H: Threads + Sync, T: Tables<Row>, G: Gate + Sync>(
 // The answers of the two inputs of a node.
 #[cycle(answer_of)]
 fn both<'t, H: Threads + Sync, T: Tables<Row>, G: Gate + Sync>(
-    rt: &H,
-    alloc: Global,
+    crew: &Crew<'_, H, G>,
     left: &Boxed<Plan>,
     right: &Boxed<Plan>,
     tables: &'t T,
-    workers: usize,
-    gate: &G,
 ) -> Result<Inputs<'t>, NoMemory>
-    requires least { 1 ≤ workers }
-    requires most { workers ≤ max_workers }
     requires sound_left { is_sound left.now ≡ true }
     requires sound_right { is_sound right.now ≡ true }
     requires tables_left { AreThere (T.named tables.now) (scans_of left.now) }
@@ -186,7 +163,7 @@ fn both<'t, H: Threads + Sync, T: Tables<Row>, G: Gate + Sync>(
     ensures size_left { IfOk result (λ i. length (rel_of i.left) ≤ plan_size (sizes_of (T.named tables.now)) left.now) }
     ensures size_right { IfOk result (λ i. length (rel_of i.right) ≤ plan_size (sizes_of (T.named tables.now)) right.now) }
 {
-    let left = answer_of(rt, alloc, left.get(), tables, workers, gate)?;
-    let right = answer_of(rt, alloc, right.get(), tables, workers, gate)?;
+    let left = answer_of(crew, left.get(), tables)?;
+    let right = answer_of(crew, right.get(), tables)?;
     Ok(Inputs { left, right })
 }

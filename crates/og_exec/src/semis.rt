@@ -2,7 +2,6 @@
 ghost use Rattle.std.specs.Prelude.{◌≡◌, ◌≤◌, ℤ, IfOk, length, filter};
 ghost use Rattle.std.specs.List.{list_all};
 ghost use Rattle.og_base.specs.Calendar.{IsRefDay};
-ghost use Rattle.og_par.specs.Limits.{max_workers};
 ghost use Rattle.og_plan.specs.Meaning.{meets_semi};
 ghost use Rattle.og_exec.specs.Answers.{rel_of};
 ghost use Rattle.og_exec.specs.Tables.{rows_at, rows_on};
@@ -10,30 +9,25 @@ ghost use Rattle.og_exec.specs.Tables.{rows_at, rows_on};
 use crate::answer::{Answer, lent};
 use crate::semi_keys::{EqualColumns, first_width};
 use og_base::NoMemory;
-use og_par::Gate;
+use og_par::{Crew, Gate};
 use og_plan::PlanSemi;
 use og_rel::{Rel, Tables};
 use og_semi::KeyedSemi;
 use og_value::{Row, order_of_rows};
-use std::alloc::Global;
 use std::thread::Threads;
 
 // The rows that meet the semi. They are tried with those rows of its table alone that have the same
 // values in the columns which parts say are equal.
 fn semijoined<H: Threads + Sync, T: Tables<Row>, G: Gate + Sync>(
-    rt: &H,
-    alloc: Global,
-    workers: usize,
+    crew: &Crew<'_, H, G>,
     input: &Rel<Row>,
     semi: &PlanSemi,
     tables: &T,
-    gate: &G,
 ) -> Result<Rel<Row>, NoMemory>
-    requires least { 1 ≤ workers }
-    requires most { workers ≤ max_workers }
     ensures law { IfOk result (λ r. (d : ℤ) → IsRefDay d → rows_on r d ≡ filter (λ row. meets_semi d (rows_at (T.named tables.now) d) row semi.now) (rows_on input.now d)) }
     ensures size { IfOk result (λ r. length r ≤ length input.now) }
 {
+    let alloc = crew.alloc();
     order_of_rows();
     let table = lent(alloc, &semi.table.name, tables);
     let matching = EqualColumns {
@@ -44,27 +38,22 @@ fn semijoined<H: Threads + Sync, T: Tables<Row>, G: Gate + Sync>(
         matching,
         positive: semi.positive,
     }
-    .apply_by_workers(rt, alloc, workers, input, table.rel(), gate)
+    .apply_by_workers(crew, input, table.rel())
 }
 
 // The rows that meet all of the semis, one semi after the other.
 pub(crate) fn sifted<'t, H: Threads + Sync, T: Tables<Row>, G: Gate + Sync>(
-    rt: &H,
-    alloc: Global,
-    workers: usize,
+    crew: &Crew<'_, H, G>,
     input: Answer<'t>,
     semis: &[PlanSemi],
     tables: &'t T,
-    gate: &G,
 ) -> Result<Answer<'t>, NoMemory>
-    requires least { 1 ≤ workers }
-    requires most { workers ≤ max_workers }
     ensures law { IfOk result (λ a. (d : ℤ) → IsRefDay d → rows_on (rel_of a) d ≡ filter (λ row. list_all (meets_semi d (rows_at (T.named tables.now) d) row) semis.now) (rows_on (rel_of input.entry) d)) }
     ensures size { IfOk result (λ a. length (rel_of a) ≤ length (rel_of input.entry)) }
 {
     let mut met = input;
     'semis: for semi in semis {
-        met = Answer::Made(semijoined(rt, alloc, workers, met.rel(), semi, tables, gate)?);
+        met = Answer::Made(semijoined(crew, met.rel(), semi, tables)?);
     }
     Ok(met)
 }

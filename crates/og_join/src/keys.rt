@@ -3,7 +3,6 @@ ghost use Rattle.std.specs.Prelude.{◌≡◌, ◌≤◌, ◌*◌, ◌&&◌, ℤ
 ghost use Rattle.std.specs.Ordering.{eq_by_cmp};
 ghost use Rattle.og_base.specs.Calendar.{IsRefDay};
 ghost use Rattle.og_base.specs.Set.{IsExact, set_of};
-ghost use Rattle.og_par.specs.Limits.{max_workers};
 ghost use Rattle.og_rel.specs.Relations.{relation_at};
 ghost use Rattle.og_join.specs.Joined.{joined, AreTold};
 
@@ -13,7 +12,7 @@ use crate::sought::keys_sought;
 use crate::spans::{AllDays, Spans};
 use og_base::{DayCond, Glue, Instant, NoMemory};
 use og_ops::{PairMap, Whole};
-use og_par::{Gate, par_rows};
+use og_par::{Crew, Gate, par_rows};
 use og_rel::Rel;
 use std::alloc::Global;
 use std::thread::Threads;
@@ -50,26 +49,21 @@ pub fn key_join<
     C: DayCond<R> + Sync,
     G: Gate + Sync,
 >(
-    rt: &H,
-    alloc: Global,
-    workers: usize,
+    crew: &Crew<'_, H, G>,
     left: &Rel<R>,
     right: &Rel<R>,
     keys: &Q,
     cond: &C,
-    gate: &G,
 ) -> Result<Rel<R>, NoMemory>
 where
     R::Fixed: Send,
     Q::Key: Send + Sync,
-    requires least { 1 ≤ workers }
-    requires most { workers ≤ max_workers }
     ensures law { IfOk result (λ r. (d : ℤ) → IsRefDay d → relation_at R.Fixed.cmp R.meaning r d
         ≡ set_of R.Fixed.cmp (joined R.glued (λ x y. eq_by_cmp Q.Key.cmp (Q.left_of keys.now x) (Q.right_of keys.now y) && C.holds cond.now d (R.glued x y))
         (relation_at R.Fixed.cmp R.meaning left.now d) (relation_at R.Fixed.cmp R.meaning right.now d))) }
     ensures size { IfOk result (λ r. length r ≤ length left.now * length right.now) }
 {
-    key_join_with(rt, alloc, workers, left, right, keys, cond, &Whole, gate)
+    key_join_with(crew, left, right, keys, cond, &Whole)
 }
 
 /// On every day what the map makes of the pairs of rows whose keys are equal and for which, glued, the
@@ -82,29 +76,22 @@ pub fn key_join_with<
     M: PairMap<R> + Sync,
     G: Gate + Sync,
 >(
-    rt: &H,
-    alloc: Global,
-    workers: usize,
+    crew: &Crew<'_, H, G>,
     left: &Rel<R>,
     right: &Rel<R>,
     keys: &Q,
     cond: &C,
     pair_map: &M,
-    gate: &G,
 ) -> Result<Rel<R>, NoMemory>
 where
     R::Fixed: Send,
     Q::Key: Send + Sync,
-    requires least { 1 ≤ workers }
-    requires most { workers ≤ max_workers }
     ensures law { IfOk result (λ r. (d : ℤ) → IsRefDay d → relation_at R.Fixed.cmp R.meaning r d
         ≡ set_of R.Fixed.cmp (map (M.image pair_map.now d) (joined R.glued (λ x y. eq_by_cmp Q.Key.cmp (Q.left_of keys.now x) (Q.right_of keys.now y) && C.holds cond.now d (R.glued x y))
         (relation_at R.Fixed.cmp R.meaning left.now d) (relation_at R.Fixed.cmp R.meaning right.now d)))) }
     ensures size { IfOk result (λ r. length r ≤ length left.now * length right.now) }
 {
-    key_span_join(
-        rt, alloc, workers, left, right, keys, &AllDays, cond, pair_map, gate,
-    )
+    key_span_join(crew, left, right, keys, &AllDays, cond, pair_map)
 }
 
 /// On every day what the map makes of the pairs of rows whose keys are equal and for which, glued, the
@@ -123,31 +110,26 @@ pub fn key_span_join<
     M: PairMap<R> + Sync,
     G: Gate + Sync,
 >(
-    rt: &H,
-    alloc: Global,
-    workers: usize,
+    crew: &Crew<'_, H, G>,
     left: &'x Rel<R>,
     right: &'x Rel<R>,
     keys: &'x Q,
     spans: &'x S,
     cond: &'x C,
     pair_map: &'x M,
-    gate: &G,
 ) -> Result<Rel<R>, NoMemory>
 where
     R::Fixed: Send,
     Q::Key: Send + Sync,
-    requires least { 1 ≤ workers }
-    requires most { workers ≤ max_workers }
     requires told { AreTold R.glued R.meaning (C.holds cond.now) (S.left_of spans.now) (S.right_of spans.now) left.now right.now }
     ensures law { IfOk result (λ r. (d : ℤ) → IsRefDay d → relation_at R.Fixed.cmp R.meaning r d
         ≡ set_of R.Fixed.cmp (map (M.image pair_map.now d) (joined R.glued (λ x y. eq_by_cmp Q.Key.cmp (Q.left_of keys.now x) (Q.right_of keys.now y) && C.holds cond.now d (R.glued x y))
         (relation_at R.Fixed.cmp R.meaning left.now d) (relation_at R.Fixed.cmp R.meaning right.now d)))) }
     ensures size { IfOk result (λ r. length r ≤ length left.now * length right.now) }
 {
-    let sought = keys_sought(alloc, keys, left, right.len())?;
-    let others = right_by_key(rt, alloc, workers, keys, spans, &sought, right, gate)?;
-    let right = GroupedRows::of(alloc, others.as_slice())?;
+    let sought = keys_sought(crew.alloc(), keys, left, right.len())?;
+    let others = right_by_key(crew, keys, spans, &sought, right)?;
+    let right = GroupedRows::of(crew.alloc(), others.as_slice())?;
     let piece = TryLeft {
         keys,
         spans,
@@ -155,6 +137,6 @@ where
         cond,
         pair_map,
     };
-    let hits = par_rows(rt, alloc, workers, left.pairs(), &piece, gate)?;
+    let hits = par_rows(crew, left.pairs(), &piece)?;
     Ok(Rel::of(hits))
 }

@@ -1,9 +1,8 @@
 //! Right rows in the order of their keys, and the hits that are made of left rows and those that have their keys.
-ghost use Rattle.std.specs.Prelude.{◌≡◌, ◌++◌, ◌≤◌, List, [], ◌∷◌, IfOk, OnOk, map};
+ghost use Rattle.std.specs.Prelude.{◌≡◌, ◌++◌, List, [], ◌∷◌, IfOk, OnOk, map};
 ghost use Rattle.std.specs.List.{All};
 ghost use Rattle.std.specs.List.Sorted.{IsPermutation};
 ghost use Rattle.std.specs.Ordering.{on};
-ghost use Rattle.og_par.specs.Limits.{max_workers};
 ghost use Rattle.og_ops.specs.Lending.{lent, ByKey};
 ghost use Rattle.og_rel.specs.declared.pair.Pair.{Pair};
 ghost use Rattle.og_join.specs.SameKey.{AreHits, AreLent, IsNear};
@@ -15,7 +14,7 @@ use crate::span_key::{SpanKey, do_overlap};
 use crate::spans::Spans;
 use og_base::{DayCond, FixedPeriod, Glue, NoMemory, RtSet};
 use og_ops::{Hit, KeyedRow, PairMap, test_pair_with};
-use og_par::{Gate, Piece, par_rows};
+use og_par::{Crew, Gate, Piece, par_rows};
 use og_rel::{Pair, Rel, blocks_of};
 use std::alloc::Global;
 use std::cmp::Ordering;
@@ -31,30 +30,25 @@ pub(crate) fn right_by_key<
     S: Spans<R> + Sync,
     G: Gate + Sync,
 >(
-    rt: &H,
-    alloc: Global,
-    workers: usize,
+    crew: &Crew<'_, H, G>,
     keys: &Q,
     spans: &S,
     sought: &Sought<Q::Key>,
     right: &'a Rel<R>,
-    gate: &G,
 ) -> Result<Vec<KeyedRow<'a, R, SpanKey<Q::Key>>>, NoMemory>
 where
     R::Fixed: Send,
     Q::Key: Send + Sync,
-    requires least { 1 ≤ workers }
-    requires most { workers ≤ max_workers }
     ensures rising { IfOk result (λ v. ByKey (on (λ s. s.key) Q.Key.cmp) v.items) }
     ensures lent { IfOk result (λ v. AreLent R.meaning Q.Key.cmp (Q.right_of keys.now) (S.right_of spans.now) sought.now right.now v.items) }
 {
-    let blocks = blocks_of(alloc, workers, right.pairs())?;
+    let blocks = blocks_of(crew.alloc(), crew.workers(), right.pairs())?;
     let block = LendBlock {
         keys,
         spans,
         sought,
     };
-    let mut rows = par_rows(rt, alloc, workers, blocks.as_slice(), &block, gate)?;
+    let mut rows = par_rows(crew, blocks.as_slice(), &block)?;
     sort_by_key(&mut rows)?;
     Ok(rows)
 }

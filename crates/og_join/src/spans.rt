@@ -3,7 +3,6 @@ ghost use Rattle.std.specs.Prelude.{◌≡◌, ◌≤◌, ◌*◌, ℤ, IfOk, le
 ghost use Rattle.og_base.specs.Calendar.{IsRefDay};
 ghost use Rattle.og_base.specs.Set.{set_of};
 ghost use Rattle.og_base.specs.declared.range.FixedPeriod.{FixedPeriod};
-ghost use Rattle.og_par.specs.Limits.{max_workers};
 ghost use Rattle.og_rel.specs.Relations.{relation_at};
 ghost use Rattle.og_join.specs.Joined as meant;
 ghost use Rattle.og_join.specs.Joined.{joined, AreTold};
@@ -13,9 +12,8 @@ use crate::outers::{OfLeft, OfRight, rising_spans, spans_of};
 use crate::tries::Sides;
 use og_base::{DayCond, ExtDay, FixedPeriod, Glue, Instant, NoMemory};
 use og_ops::{PairMap, Whole};
-use og_par::{Gate, par_rows};
+use og_par::{Crew, Gate, par_rows};
 use og_rel::Rel;
-use std::alloc::Global;
 use std::thread::Threads;
 
 /// Spans of left and of right rows.
@@ -77,26 +75,21 @@ pub fn overlap_join<
     C: DayCond<R> + Sync,
     G: Gate + Sync,
 >(
-    rt: &H,
-    alloc: Global,
-    workers: usize,
+    crew: &Crew<'_, H, G>,
     left: &Rel<R>,
     right: &Rel<R>,
     spans: &Q,
     cond: &C,
-    gate: &G,
 ) -> Result<Rel<R>, NoMemory>
 where
     R::Fixed: Send,
-    requires least { 1 ≤ workers }
-    requires most { workers ≤ max_workers }
     requires told { AreTold R.glued R.meaning (C.holds cond.now) (Q.left_of spans.now) (Q.right_of spans.now) left.now right.now }
     ensures law { IfOk result (λ r. (d : ℤ) → IsRefDay d → relation_at R.Fixed.cmp R.meaning r d
         ≡ set_of R.Fixed.cmp (joined R.glued (λ x y. C.holds cond.now d (R.glued x y))
         (relation_at R.Fixed.cmp R.meaning left.now d) (relation_at R.Fixed.cmp R.meaning right.now d))) }
     ensures size { IfOk result (λ r. length r ≤ length left.now * length right.now) }
 {
-    overlap_join_with(rt, alloc, workers, left, right, spans, cond, &Whole, gate)
+    overlap_join_with(crew, left, right, spans, cond, &Whole)
 }
 
 /// On every day what the map makes of the pairs of rows for which, glued, the condition holds, where it
@@ -112,26 +105,22 @@ pub fn overlap_join_with<
     M: PairMap<R> + Sync,
     G: Gate + Sync,
 >(
-    rt: &H,
-    alloc: Global,
-    workers: usize,
+    crew: &Crew<'_, H, G>,
     left: &Rel<R>,
     right: &Rel<R>,
     spans: &Q,
     cond: &C,
     pair_map: &M,
-    gate: &G,
 ) -> Result<Rel<R>, NoMemory>
 where
     R::Fixed: Send,
-    requires least { 1 ≤ workers }
-    requires most { workers ≤ max_workers }
     requires told { AreTold R.glued R.meaning (C.holds cond.now) (Q.left_of spans.now) (Q.right_of spans.now) left.now right.now }
     ensures law { IfOk result (λ r. (d : ℤ) → IsRefDay d → relation_at R.Fixed.cmp R.meaning r d
         ≡ set_of R.Fixed.cmp (map (M.image pair_map.now d) (joined R.glued (λ x y. C.holds cond.now d (R.glued x y))
         (relation_at R.Fixed.cmp R.meaning left.now d) (relation_at R.Fixed.cmp R.meaning right.now d)))) }
     ensures size { IfOk result (λ r. length r ≤ length left.now * length right.now) }
 {
+    let alloc = crew.alloc();
     let lefts = spans_of(alloc, left, &OfLeft { spans })?;
     let rights = rising_spans(alloc, right, &OfRight { spans })?;
     let sides = Sides {
@@ -144,7 +133,7 @@ where
         right_spans: &rights,
         sides: &sides,
     };
-    let blocks = blocks_of(alloc, workers, lefts.as_slice())?;
-    let hits = par_rows(rt, alloc, workers, blocks.as_slice(), &block, gate)?;
+    let blocks = blocks_of(alloc, crew.workers(), lefts.as_slice())?;
+    let hits = par_rows(crew, blocks.as_slice(), &block)?;
     Ok(Rel::of(hits))
 }

@@ -2,12 +2,11 @@
 ghost use Rattle.std.specs.Prelude.{◌≡◌, ◌++◌, ◌+◌, ◌*◌, ◌≤◌, ℕ, ℤ, List, [], ◌∷◌, IfOk, OnOk, length};
 ghost use Rattle.std.specs.List.{flat_map};
 ghost use Rattle.og_base.specs.Calendar.{IsRefDay};
-ghost use Rattle.og_par.specs.Limits.{max_workers};
 ghost use Rattle.og_rel.specs.Pairs.{present_of_pairs};
 ghost use Rattle.og_rel.specs.Relations.{passing, present};
 
 use og_base::{Glue, NoMemory, RtSet};
-use og_par::{Gate, Piece, par_rows};
+use og_par::{Crew, Gate, Piece, par_rows};
 use og_rel::{Pair, Rel, RowTest, blocks_of};
 use std::alloc::Global;
 use std::thread::Threads;
@@ -87,28 +86,17 @@ pub(crate) fn each_row_by_workers<
     R: Glue + Drop + Sync + Send,
     O: EachRow<R> + Sync,
     G: Gate + Sync,
->(rt: &H, alloc: Global, workers: usize, op: &O, rel: &Rel<R>, gate: &G) -> Result<Rel<R>, NoMemory>
+>(crew: &Crew<'_, H, G>, op: &O, rel: &Rel<R>) -> Result<Rel<R>, NoMemory>
 where
     R::Fixed: Send,
-    requires least { 1 ≤ workers }
-    requires most { workers ≤ max_workers }
     ensures law { IfOk result (λ r. (d : ℤ) → IsRefDay d → present R.meaning r d ≡ O.becomes op.now d (present R.meaning rel.now d)) }
     ensures size { IfOk result (λ r. length r ≤ O.most_of_one op.now * length rel.now) }
 {
-    let busy = busy_workers(workers, rel.len());
-    let blocks = blocks_of(alloc, busy, rel.pairs())?;
-    let parts = par_rows(rt, alloc, busy, blocks.as_slice(), &OfBlock { op }, gate)?;
-    one_after_another(alloc, parts)
-}
-
-// As many of the workers as have `LEAST` rows each, and one at least.
-fn busy_workers(workers: usize, rows: usize) -> usize
-    requires least { 1 ≤ workers }
-    requires most { workers ≤ max_workers }
-    ensures least { 1 ≤ result }
-    ensures most { result ≤ max_workers }
-{
-    (rows / LEAST).min(workers).max(1)
+    // Each worker has `LEAST` rows.
+    let busy = crew.at_most(rel.len() / LEAST);
+    let blocks = blocks_of(crew.alloc(), busy.workers(), rel.pairs())?;
+    let parts = par_rows(&busy, blocks.as_slice(), &OfBlock { op })?;
+    one_after_another(crew.alloc(), parts)
 }
 
 // Makes of a block of pairs what its rows become.

@@ -2,14 +2,13 @@
 ghost use Rattle.std.specs.Prelude.{◌≡◌, ◌≤◌, ℤ, IfOk, map, length};
 ghost use Rattle.og_base.specs.Calendar.{IsRefDay};
 ghost use Rattle.og_base.specs.Set.{set_of};
-ghost use Rattle.og_par.specs.Limits.{max_workers};
 ghost use Rattle.og_rel.specs.Relations.{relation_at};
 
 use crate::each_row::{EachRow, each_passing, each_row, each_row_by_workers};
 use crate::operator::UnaryOp;
 use crate::puts::put_image;
 use og_base::{Glue, NoMemory, RowMap, RtSet};
-use og_par::Gate;
+use og_par::{Crew, Gate};
 use og_rel::{Rel, RowTest};
 use std::alloc::Global;
 use std::thread::Threads;
@@ -61,21 +60,16 @@ impl<M> Project<M> {
     /// What `apply` gives, made by 1 to 64 workers. Refused only for want of memory.
     pub fn apply_by_workers<H: Threads + Sync, R: Glue + Drop + Sync + Send, G: Gate + Sync>(
         &self,
-        rt: &H,
-        alloc: Global,
-        workers: usize,
+        crew: &Crew<'_, H, G>,
         rel: &Rel<R>,
-        gate: &G,
     ) -> Result<Rel<R>, NoMemory>
     where
         M: RowMap<R> + Sync,
         R::Fixed: Send,
-        requires least { 1 ≤ workers }
-        requires most { workers ≤ max_workers }
         ensures law { IfOk result (λ r. (d : ℤ) → IsRefDay d →
             relation_at R.Fixed.cmp R.meaning r d ≡ set_of R.Fixed.cmp (map (M.image self.now.items d) (relation_at R.Fixed.cmp R.meaning rel.now d))) }
         ensures size { IfOk result (λ r. length r ≤ length rel.now) }
     {
-        each_row_by_workers(rt, alloc, workers, self, rel, gate)
+        each_row_by_workers(crew, self, rel)
     }
 }

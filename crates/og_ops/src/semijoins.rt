@@ -5,7 +5,6 @@ ghost use Rattle.std.specs.List.Sorted.{IsPartitionedBy, IsPartitionPoint};
 ghost use Rattle.std.specs.Ordering.{eq_by_cmp, is_lt, is_le, nat_cmp};
 ghost use Rattle.og_base.specs.Calendar.{IsRefDay};
 ghost use Rattle.og_base.specs.Ranges.{Range, holds_day};
-ghost use Rattle.og_par.specs.Limits.{max_workers};
 ghost use Rattle.og_rel.specs.Relations.{present, relation_at};
 ghost use Rattle.og_ops.specs.Lending.{lent, ByKey};
 ghost use Rattle.og_ops.specs.Members.{AreMembers};
@@ -16,7 +15,7 @@ use crate::matching::Matching;
 use crate::puts::put_row;
 use crate::sift::wanted_days;
 use og_base::{Glue, Groups, NoMemory, RtSet};
-use og_par::Gate;
+use og_par::{Crew, Gate};
 use og_rel::Rel;
 use std::alloc::Global;
 use std::cmp::Ordering;
@@ -62,26 +61,21 @@ pub fn semijoin_by_workers<
     M: Matching<R> + Sync,
     G: Gate + Sync,
 >(
-    rt: &H,
-    alloc: Global,
-    workers: usize,
+    crew: &Crew<'_, H, G>,
     matching: &M,
     wanted: bool,
     left: &Rel<R>,
     right: &Rel<R>,
-    gate: &G,
 ) -> Result<Rel<R>, NoMemory>
 where
     R::Fixed: Send,
-    requires least { 1 ≤ workers }
-    requires most { workers ≤ max_workers }
     ensures law { IfOk result (λ r. (d : ℤ) → IsRefDay d → relation_at R.Fixed.cmp R.meaning r d
         ≡ filter (λ x. is_wanted wanted (list_any (M.meets matching.now d x) (relation_at R.Fixed.cmp R.meaning right.now d))) (relation_at R.Fixed.cmp R.meaning left.now d)) }
     ensures size { IfOk result (λ r. length r ≤ length left.now) }
 {
-    let others = by_group(alloc, matching, right)?;
+    let others = by_group(crew.alloc(), matching, right)?;
     let meeting = Meeting::of(matching, wanted, others.as_slice());
-    each_row_by_workers(rt, alloc, workers, &meeting, left, gate)
+    each_row_by_workers(crew, &meeting, left)
 }
 
 // A matching, the wanted truth, and right rows in the order of their groups.

@@ -1,7 +1,6 @@
 //! The set operations on relations.
 ghost use Rattle.std.specs.Prelude.{◌≡◌, ◌≤◌, ◌+◌, ℤ, IfOk, length};
 ghost use Rattle.og_base.specs.Calendar.{IsRefDay};
-ghost use Rattle.og_par.specs.Limits.{max_workers};
 ghost use Rattle.og_rel.specs.Algebra.{union, except, intersect};
 ghost use Rattle.og_rel.specs.Relations.{relation_at};
 
@@ -11,7 +10,7 @@ use crate::operator::BinaryOp;
 use crate::puts::put_row;
 use crate::semijoins::{semijoin, semijoin_by_workers};
 use og_base::{Glue, Grouped, NoMemory, RtSet};
-use og_par::Gate;
+use og_par::{Crew, Gate};
 use og_rel::Rel;
 use std::alloc::Global;
 use std::thread::Threads;
@@ -39,23 +38,18 @@ impl Union {
     /// What `apply` gives, made by 1 to 64 workers. Refused only for want of memory.
     pub fn apply_by_workers<H: Threads + Sync, R: Glue + Drop + Sync + Send, G: Gate + Sync>(
         &self,
-        rt: &H,
-        alloc: Global,
-        workers: usize,
+        crew: &Crew<'_, H, G>,
         left: &Rel<R>,
         right: &Rel<R>,
-        gate: &G,
     ) -> Result<Rel<R>, NoMemory>
     where
         R::Fixed: Send,
-        requires least { 1 ≤ workers }
-        requires most { workers ≤ max_workers }
         ensures law { IfOk result (λ r. (d : ℤ) → IsRefDay d → relation_at R.Fixed.cmp R.meaning r d
             ≡ union R.Fixed.cmp (relation_at R.Fixed.cmp R.meaning left.now d) (relation_at R.Fixed.cmp R.meaning right.now d)) }
         ensures size { IfOk result (λ r. length r ≤ length left.now + length right.now) }
     {
-        let mut both = each_row_by_workers(rt, alloc, workers, &AsItIs, left, gate)?;
-        both.append(each_row_by_workers(rt, alloc, workers, &AsItIs, right, gate)?)?;
+        let mut both = each_row_by_workers(crew, &AsItIs, left)?;
+        both.append(each_row_by_workers(crew, &AsItIs, right)?)?;
         Ok(both)
     }
 }
@@ -100,24 +94,14 @@ impl Difference {
         H: Threads + Sync,
         R: Glue + Grouped + Drop + Sync + Send,
         G: Gate + Sync,
-    >(
-        &self,
-        rt: &H,
-        alloc: Global,
-        workers: usize,
-        left: &Rel<R>,
-        right: &Rel<R>,
-        gate: &G,
-    ) -> Result<Rel<R>, NoMemory>
+    >(&self, crew: &Crew<'_, H, G>, left: &Rel<R>, right: &Rel<R>) -> Result<Rel<R>, NoMemory>
     where
         R::Fixed: Send,
-        requires least { 1 ≤ workers }
-        requires most { workers ≤ max_workers }
         ensures law { IfOk result (λ r. (d : ℤ) → IsRefDay d → relation_at R.Fixed.cmp R.meaning r d
             ≡ except R.Fixed.cmp (relation_at R.Fixed.cmp R.meaning left.now d) (relation_at R.Fixed.cmp R.meaning right.now d)) }
         ensures size { IfOk result (λ r. length r ≤ length left.now) }
     {
-        semijoin_by_workers(rt, alloc, workers, &Equality, false, left, right, gate)
+        semijoin_by_workers(crew, &Equality, false, left, right)
     }
 }
 
@@ -143,23 +127,13 @@ impl Intersection {
         H: Threads + Sync,
         R: Glue + Grouped + Drop + Sync + Send,
         G: Gate + Sync,
-    >(
-        &self,
-        rt: &H,
-        alloc: Global,
-        workers: usize,
-        left: &Rel<R>,
-        right: &Rel<R>,
-        gate: &G,
-    ) -> Result<Rel<R>, NoMemory>
+    >(&self, crew: &Crew<'_, H, G>, left: &Rel<R>, right: &Rel<R>) -> Result<Rel<R>, NoMemory>
     where
         R::Fixed: Send,
-        requires least { 1 ≤ workers }
-        requires most { workers ≤ max_workers }
         ensures law { IfOk result (λ r. (d : ℤ) → IsRefDay d → relation_at R.Fixed.cmp R.meaning r d
             ≡ intersect R.Fixed.cmp (relation_at R.Fixed.cmp R.meaning left.now d) (relation_at R.Fixed.cmp R.meaning right.now d)) }
         ensures size { IfOk result (λ r. length r ≤ length left.now) }
     {
-        semijoin_by_workers(rt, alloc, workers, &Equality, true, left, right, gate)
+        semijoin_by_workers(crew, &Equality, true, left, right)
     }
 }

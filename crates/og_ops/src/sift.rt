@@ -2,7 +2,6 @@
 ghost use Rattle.std.specs.Prelude.{◌≡◌, ◌++◌, ◌+◌, ◌≤◌, ◌&&◌, ℤ, [], ◌∷◌, IfOk, OnOk, filter, length};
 ghost use Rattle.og_base.specs.Calendar.{IsRefDay};
 ghost use Rattle.og_base.specs.Ranges.{holds_day};
-ghost use Rattle.og_par.specs.Limits.{max_workers};
 ghost use Rattle.og_rel.specs.Relations.{present, relation_at};
 ghost use Rattle.og_ops.specs.Wanted.{is_wanted};
 
@@ -10,7 +9,7 @@ use crate::each_row::{EachRow, each_passing, each_row, each_row_by_workers};
 use crate::operator::UnaryOp;
 use crate::puts::put_row;
 use og_base::{DayCond, Glue, NoMemory, RtSet};
-use og_par::Gate;
+use og_par::{Crew, Gate};
 use og_rel::{Rel, RowTest};
 use std::alloc::Global;
 use std::thread::Threads;
@@ -61,22 +60,17 @@ impl<C> Select<C> {
     /// What `apply` gives, made by 1 to 64 workers. Refused only for want of memory.
     pub fn apply_by_workers<H: Threads + Sync, R: Glue + Drop + Sync + Send, G: Gate + Sync>(
         &self,
-        rt: &H,
-        alloc: Global,
-        workers: usize,
+        crew: &Crew<'_, H, G>,
         rel: &Rel<R>,
-        gate: &G,
     ) -> Result<Rel<R>, NoMemory>
     where
         C: DayCond<R> + Sync,
         R::Fixed: Send,
-        requires least { 1 ≤ workers }
-        requires most { workers ≤ max_workers }
         ensures law { IfOk result (λ r. (d : ℤ) → IsRefDay d →
             relation_at R.Fixed.cmp R.meaning r d ≡ filter (C.holds self.now.cond d) (relation_at R.Fixed.cmp R.meaning rel.now d)) }
         ensures size { IfOk result (λ r. length r ≤ length rel.now) }
     {
-        each_row_by_workers(rt, alloc, workers, self, rel, gate)
+        each_row_by_workers(crew, self, rel)
     }
 }
 

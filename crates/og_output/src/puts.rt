@@ -1,7 +1,6 @@
 //! Pieces of output, put into a sink.
-ghost use Rattle.std.specs.Prelude.{◌≡◌, ◌≤◌, IfSome, map};
+ghost use Rattle.std.specs.Prelude.{◌≡◌, IfSome, map};
 ghost use Rattle.std.specs.List.{flat_map};
-ghost use Rattle.og_par.specs.Limits.{max_workers};
 ghost use Rattle.og_value.specs.Cells.{fixed_text};
 ghost use Rattle.og_value.specs.Order.{row_order};
 ghost use Rattle.og_value.specs.Values.{row_at};
@@ -21,7 +20,7 @@ use crate::sights::{DayRows, rows_of_day};
 use og_base::RefDay;
 use og_faults::Fault;
 use og_io::{PutRefusal, Sink};
-use og_par::{Gate, par_rows};
+use og_par::{Crew, Gate, par_rows};
 use og_plan::{PlanLine, fitting_queries, plan_lines, plan_of};
 use og_query::Query;
 use og_rel::Rel;
@@ -51,68 +50,54 @@ pub fn put<K: Sink>(piece: &[u8], out: &mut K) -> Result<(), PutRefusal>
 /// the texts of each row's values. Workers, 1 to `MAX_WORKERS` of og_par, put the rows in order and make the text block
 /// by block, some blocks in each round, so that that of many rows never stands in memory whole.
 pub fn put_relation<H: Threads + Sync, K: Sink, G: Gate + Sync>(
-    rt: &H,
-    alloc: Global,
-    workers: usize,
-    gate: &G,
+    crew: &Crew<'_, H, G>,
     columns: &Schema,
     rel: &Rel<Row>,
     day: RefDay,
     out: &mut K,
 ) -> Result<(), PutRefusal>
-    requires least { 1 ≤ workers }
-    requires most { workers ≤ max_workers }
     ensures put { IsPut (K.written out.old) (K.written out.new) (layout columns.now (relation_at row_order row_at rel.now day)) result }
     ensures counted { IsFaultCount (is_unput result) (K.faults out.old) (K.faults out.new) }
 {
-    let rows = rows_of_day(rt, alloc, workers, gate, rel, day)?;
-    put_layout(rt, alloc, workers, gate, columns, &rows, out)
+    let rows = rows_of_day(crew, rel, day)?;
+    put_layout(crew, columns, &rows, out)
 }
 
 // Puts the record of the columns' names, and those of the rows of the day.
 fn put_layout<H: Threads + Sync, K: Sink, G: Gate + Sync>(
-    rt: &H,
-    alloc: Global,
-    workers: usize,
-    gate: &G,
+    crew: &Crew<'_, H, G>,
     columns: &Schema,
     rows: &DayRows,
     out: &mut K,
 ) -> Result<(), PutRefusal>
-    requires least { 1 ≤ workers }
-    requires most { workers ≤ max_workers }
     requires texts { IfSome rows.now.texts (λ texts. flat_map (λ text. text.items) texts.items ≡ records (map (map fixed_text) (rows_of rows.now.lists.items))) }
     ensures put { IsPut (K.written out.old) (K.written out.new) (layout columns.now (rows_of rows.now.lists.items)) result }
     ensures counted { IsFaultCount (is_unput result) (K.faults out.old) (K.faults out.new) }
 {
+    let alloc = crew.alloc();
     let header = header_text(alloc, columns)?;
     put(header.as_slice(), out)?;
     if let Some(texts) = &rows.texts {
         return put_texts(texts.as_slice(), out);
     }
     let blocks = blocks_of(alloc, rows.lists.as_slice())?;
-    put_blocks(rt, alloc, workers, gate, blocks.as_slice(), out)
+    put_blocks(crew, blocks.as_slice(), out)
 }
 
 // Puts the records of the rows of the blocks, those of a round after the other.
 fn put_blocks<H: Threads + Sync, K: Sink, G: Gate + Sync>(
-    rt: &H,
-    alloc: Global,
-    workers: usize,
-    gate: &G,
+    crew: &Crew<'_, H, G>,
     blocks: &[&[Sight]],
     out: &mut K,
 ) -> Result<(), PutRefusal>
-    requires least { 1 ≤ workers }
-    requires most { workers ≤ max_workers }
     ensures put { IsPut (K.written out.old) (K.written out.new) (records (map (map fixed_text) (flat_map (λ b. b.now) blocks.now))) result }
     ensures counted { IsFaultCount (is_unput result) (K.faults out.old) (K.faults out.new) }
 {
-    let round = if workers == 1 { 1 } else { ROUND };
+    let round = if crew.workers() == 1 { 1 } else { ROUND };
     let mut next = 0;
     'rounds: while next < blocks.len() {
         let end = next + (blocks.len() - next).min(round);
-        put_round(rt, alloc, workers, gate, &blocks[next..end], out)?;
+        put_round(crew, &blocks[next..end], out)?;
         next = end;
     }
     Ok(())
@@ -120,20 +105,15 @@ fn put_blocks<H: Threads + Sync, K: Sink, G: Gate + Sync>(
 
 // Puts the records of the rows of the blocks of a round.
 fn put_round<H: Threads + Sync, K: Sink, G: Gate + Sync>(
-    rt: &H,
-    alloc: Global,
-    workers: usize,
-    gate: &G,
+    crew: &Crew<'_, H, G>,
     blocks: &[&[Sight]],
     out: &mut K,
 ) -> Result<(), PutRefusal>
-    requires least { 1 ≤ workers }
-    requires most { workers ≤ max_workers }
     ensures put { IsPut (K.written out.old) (K.written out.new) (records (map (map fixed_text) (flat_map (λ b. b.now) blocks.now))) result }
     ensures counted { IsFaultCount (is_unput result) (K.faults out.old) (K.faults out.new) }
 {
-    let busy = (blocks.len() / LEAST).clamp(1, workers);
-    let texts = par_rows(rt, alloc, busy, blocks, &BlockText, gate)?;
+    let busy = crew.at_most(blocks.len() / LEAST);
+    let texts = par_rows(&busy, blocks, &BlockText)?;
     put_texts(texts.as_slice(), out)
 }
 

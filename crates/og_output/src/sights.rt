@@ -3,7 +3,6 @@ ghost use Rattle.std.specs.Prelude.{◌≡◌, ◌≤◌, ◌++◌, ◌∷◌, [
 ghost use Rattle.std.specs.List.{flat_map};
 ghost use Rattle.std.specs.List.Sorted.{IsPermutation};
 ghost use Rattle.og_base.specs.Set.{set_of};
-ghost use Rattle.og_par.specs.Limits.{max_workers};
 ghost use Rattle.og_value.specs.Cells.{fixed_text};
 ghost use Rattle.og_value.specs.Order.{row_order};
 ghost use Rattle.og_value.specs.Values.{row_at};
@@ -15,7 +14,7 @@ ghost use Rattle.og_output.specs.Records.{records};
 use crate::ordered::are_in_order;
 use crate::rows::rows_text;
 use og_base::{NoMemory, RefDay, rising};
-use og_par::{Gate, Piece, par_rows};
+use og_par::{Crew, Gate, Piece, par_rows};
 use og_rel::{Pair, Rel, blocks_of, cuts_among, parts_of, put_together, some_of};
 use og_value::{Row, Sight, order_of_sights};
 use std::alloc::Global;
@@ -39,33 +38,23 @@ pub struct DayRows<'r> {
 /// relation, and makes the text of its list where the rows seem to stand in order already: beginning threads once
 /// more for the text would take longer than many a text. Refused only for want of memory.
 pub fn rows_of_day<'r, H: Threads + Sync, G: Gate + Sync>(
-    rt: &H,
-    alloc: Global,
-    workers: usize,
-    gate: &G,
+    crew: &Crew<'_, H, G>,
     rel: &'r Rel<Row>,
     day: RefDay,
 ) -> Result<DayRows<'r>, NoMemory>
-    requires least { 1 ≤ workers }
-    requires most { workers ≤ max_workers }
     ensures rows { IfOk result (λ v. rows_of v.lists.items ≡ relation_at row_order row_at rel.now day) }
     ensures texts { IfOk result (λ v. IfSome v.texts (λ texts. flat_map (λ text. text.items) texts.items ≡ records (map (map fixed_text) (rows_of v.lists.items)))) }
 {
+    let alloc = crew.alloc();
     order_of_sights();
     let pairs = rel.pairs();
-    let with_text = seem_in_order(alloc, workers, pairs, day)?;
-    let blocks = blocks_of(alloc, (pairs.len() / LEAST).clamp(1, workers), pairs)?;
-    let made = par_rows(
-        rt,
-        alloc,
-        workers,
-        blocks.as_slice(),
-        &OnDay { day, with_text },
-        gate,
-    )?;
+    let with_text = seem_in_order(alloc, crew.workers(), pairs, day)?;
+    let busy = crew.at_most(pairs.len() / LEAST);
+    let blocks = blocks_of(alloc, busy.workers(), pairs)?;
+    let made = par_rows(&busy, blocks.as_slice(), &OnDay { day, with_text })?;
     let (lists, texts) = apart(alloc, made)?;
     if !are_in_order(lists.as_slice()) {
-        let lists = put_in_order(rt, alloc, pairs, day, lists)?;
+        let lists = put_in_order(crew, pairs, day, lists)?;
         return Ok(DayRows { lists, texts: None });
     }
     let texts = texts_where(with_text, texts);
@@ -157,19 +146,19 @@ fn apart<'r>(
 
 // The rising list of the rows of rising lists: each is cut at the same rows, and workers put the parts between two cuts
 // together.
-fn put_in_order<'r, H: Threads + Sync>(
-    rt: &H,
-    alloc: Global,
+fn put_in_order<'r, H: Threads + Sync, G: Gate + Sync>(
+    crew: &Crew<'_, H, G>,
     pairs: &'r [Pair<Row>],
     day: RefDay,
     lists: Vec<Vec<Sight<'r>>>,
 ) -> Result<Vec<Vec<Sight<'r>>>, NoMemory>
     ensures { IfOk result (λ v. rows_of v.items ≡ set_of row_order (rows_of lists.entry.items)) }
 {
+    let alloc = crew.alloc();
     order_of_sights();
     let cuts = cuts_of(alloc, lists.len().max(1), pairs, day)?;
     let parts = parts_of_lists(alloc, lists, cuts.as_slice())?;
-    let rows = put_together(rt, alloc, cuts.len().saturating_add(1), parts)?;
+    let rows = put_together(crew, cuts.len().saturating_add(1), parts)?;
     let mut all = Vec::with_capacity(alloc, 1)?;
     all.push(rows)?;
     Ok(all)

@@ -1,12 +1,13 @@
 //! Items that are handed over, each to a worker of its own.
-ghost use Rattle.std.specs.Prelude.{◌≡◌, List, IfOk};
+ghost use Rattle.std.specs.Prelude.{IfOk};
 ghost use Rattle.std.specs.Fork.{AcceptsJobs};
 ghost use Rattle.og_par.specs.Phase.{MadeOfEach};
 ghost use Rattle.og_par.specs.Handed.{MakesOf};
 
+use crate::crew::Crew;
+use crate::gate::Gate;
 use crate::phase::followed;
 use og_base::NoMemory;
-use std::alloc::Global;
 use std::thread;
 use std::thread::Threads;
 
@@ -18,12 +19,13 @@ pub fn par_handed<
     T: Send + Drop,
     X: Send + Drop,
     F: Fn(T) -> Result<Vec<X>, NoMemory> + Sync,
->(rt: &H, alloc: Global, mut items: Vec<T>, make: &F) -> Result<Vec<X>, NoMemory>
+    G: Gate + Sync,
+>(crew: &Crew<'_, H, G>, mut items: Vec<T>, make: &F) -> Result<Vec<X>, NoMemory>
     requires { AcceptsJobs F.Fn make.now items.items }
     ensures { IfOk result (λ v. MadeOfEach (MakesOf F.Fn make.now) items.items v.items) }
 {
     let Some(last) = items.pop() else {
-        return Ok(Vec::new(alloc));
+        return Ok(Vec::new(crew.alloc()));
     };
     if items.is_empty() {
         return make(last);
@@ -35,7 +37,7 @@ pub fn par_handed<
     let here = move || -> Result<Vec<X>, NoMemory>
         requires { AcceptsJobs F.Fn make.now items.items }
         ensures { IfOk result (λ v. MadeOfEach (MakesOf F.Fn make.entry.now) items.items v.items) }
-    { par_handed(rt, alloc, items, make) };
-    let (last, before) = thread::join(rt, new, here);
+    { par_handed(crew, items, make) };
+    let (last, before) = thread::join(crew.rt(), new, here);
     followed(before?, last?)
 }

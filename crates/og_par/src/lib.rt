@@ -10,12 +10,14 @@
 //! in more than one thread, and that its gate is told of each chunk once, and of no more chunks.
 #![tactic(auto)]
 
+mod crew;
 mod gate;
 mod handed;
 mod phase;
 mod piece;
 
+pub use crew::{Crew, MAX_WORKERS};
 pub use gate::{Gate, OpenGate};
 pub use handed::par_handed;
-pub use phase::{MAX_WORKERS, followed, one_list_for_all_workers, par_rows};
+pub use phase::{followed, one_list_for_all_workers, par_rows};
 pub use piece::Piece;

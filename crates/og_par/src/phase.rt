@@ -1,54 +1,42 @@
 //! A phase: the items of a slice cut into chunks, one for each worker.
-ghost use Rattle.std.specs.Prelude.{◌≡◌, ◌≤◌, ◌<◌, ◌++◌, List, IfOk};
+ghost use Rattle.std.specs.Prelude.{◌≡◌, ◌<◌, ◌++◌, List, IfOk};
 ghost use Rattle.og_par.specs.Phase.{AllowsOne, MadeOfEach};
-ghost use Rattle.og_par.specs.Limits.{max_workers};
 
+use crate::crew::Crew;
 use crate::gate::Gate;
 use crate::piece::Piece;
 use og_base::NoMemory;
-use std::alloc::Global;
 use std::thread;
 use std::thread::Threads;
 
-/// The most workers of a phase.
-pub const MAX_WORKERS: usize = 64;
-
 /// For each item one list that the piece allows for it, these lists one after the other, in the
-/// order of the items. The items are cut into chunks of their number divided by `workers`, rounded
-/// up, the last one perhaps shorter, of which the first is made here and each other one in a thread of its
-/// own; without items there is no chunk and no call of `enter`. `workers` is from 1 to `MAX_WORKERS`.
-/// Refused only for want of memory.
+/// order of the items. The items are cut into chunks of their number divided by the crew's
+/// workers, rounded up, the last one perhaps shorter, of which the first is made here and each other one in a
+/// thread of its own; without items there is no chunk and no call of `enter`. Refused only for want of memory.
 pub fn par_rows<H: Threads + Sync, T: Sync, P: Piece<T> + Sync, G: Gate + Sync>(
-    rt: &H,
-    alloc: Global,
-    workers: usize,
+    crew: &Crew<'_, H, G>,
     items: &[T],
     piece: &P,
-    gate: &G,
 ) -> Result<Vec<P::Out>, NoMemory>
 where
     P::Out: Send + Drop,
-    requires least { 1 ≤ workers }
-    requires most { workers ≤ max_workers }
     ensures { IfOk result (λ v. MadeOfEach (P.gives piece.now) items.now v.items) }
 {
     if items.is_empty() {
-        return Ok(Vec::new(alloc));
+        return Ok(Vec::new(crew.alloc()));
     }
-    let size = items.len().div_ceil(workers);
-    made_of_chunks(rt, alloc, size, items, piece, gate)
+    let size = items.len().div_ceil(crew.workers());
+    made_of_chunks(crew, size, items, piece)
 }
 
 // What is made of some items, in chunks of a size: the last one in a new thread, those before it from here.
 // So one thread begins all others, one after the other: where two begin others at one time, these wait longer
 // for a processor.
 fn made_of_chunks<H: Threads + Sync, T: Sync, P: Piece<T> + Sync, G: Gate + Sync>(
-    rt: &H,
-    alloc: Global,
+    crew: &Crew<'_, H, G>,
     size: usize,
     items: &[T],
     piece: &P,
-    gate: &G,
 ) -> Result<Vec<P::Out>, NoMemory>
 where
     P::Out: Send + Drop,
@@ -56,37 +44,36 @@ where
     ensures { IfOk result (λ v. MadeOfEach (P.gives piece.now) items.now v.items) }
 {
     if items.len() <= size {
-        return made_of_chunk(alloc, 0, items, piece, gate);
+        return made_of_chunk(crew, 0, items, piece);
     }
     let number = (items.len() - 1) / size;
     let (before, last) = items.split_at(number * size);
     let new = move || -> Result<Vec<P::Out>, NoMemory>
         ensures { IfOk result (λ v. MadeOfEach (P.gives piece.entry.now) last.entry.now v.items) }
-    { made_of_chunk(alloc, number, last, piece, gate) };
+    { made_of_chunk(crew, number, last, piece) };
     let here = move || -> Result<Vec<P::Out>, NoMemory>
         requires { 0 < size }
         ensures { IfOk result (λ v. MadeOfEach (P.gives piece.entry.now) before.entry.now v.items) }
-    { made_of_chunks(rt, alloc, size, before, piece, gate) };
-    let (last, before) = thread::join(rt, new, here);
+    { made_of_chunks(crew, size, before, piece) };
+    let (last, before) = thread::join(crew.rt(), new, here);
     followed(before?, last?)
 }
 
 // What is made of the items of one chunk, after the gate.
-fn made_of_chunk<T, P: Piece<T>, G: Gate>(
-    alloc: Global,
+fn made_of_chunk<H: Threads + Sync, T, P: Piece<T>, G: Gate + Sync>(
+    crew: &Crew<'_, H, G>,
     number: usize,
     chunk: &[T],
     piece: &P,
-    gate: &G,
 ) -> Result<Vec<P::Out>, NoMemory>
 where
     P::Out: Drop,
     ensures { IfOk result (λ v. MadeOfEach (P.gives piece.now) chunk.now v.items) }
 {
-    gate.enter(number);
-    let mut out = Vec::new(alloc);
+    crew.gate().enter(number);
+    let mut out = Vec::new(crew.alloc());
     'items: for item in chunk {
-        piece.make(alloc, item, &mut out)?;
+        piece.make(crew.alloc(), item, &mut out)?;
     }
     Ok(out)
 }

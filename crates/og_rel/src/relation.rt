@@ -1,8 +1,7 @@
 //! Relations.
-ghost use Rattle.std.specs.Prelude.{◌≡◌, ◌++◌, ◌<◌, ◌≤◌, List, [], ◌∷◌, IfOk, OnOk, OnErr, length, map, slice_index_or, swap_remove, take};
+ghost use Rattle.std.specs.Prelude.{◌≡◌, ◌++◌, ◌<◌, List, [], IfOk, OnOk, OnErr, length, map, slice_index_or, swap_remove, take};
 ghost use Rattle.std.specs.List.{All, flat_map};
 ghost use Rattle.og_base.specs.Ranges.{Range};
-ghost use Rattle.og_par.specs.Limits.{max_workers};
 ghost use Rattle.og_rel.specs.Relations.{HasDays, instead, others, passing, relation_at, stored};
 
 use crate::blocks::LEAST;
@@ -12,7 +11,7 @@ use crate::pair::{
 };
 use crate::row_test::RowTest;
 use og_base::{Instant, NoMemory, OngoingRow, RefDay, RtSet, rising};
-use og_par::Gate;
+use og_par::{Crew, Gate};
 use std::alloc::Global;
 use std::marker::Model;
 use std::thread::Threads;
@@ -203,28 +202,23 @@ impl<R: OngoingRow> Rel<R> {
         rising(rows)
     }
 
-    /// The list of `at`, made by 1 to `MAX_WORKERS` workers of og_par: each makes the list of a block of
+    /// The list of `at`, made by the workers of the crew: each makes the list of a block of
     /// rows, and then puts together what the blocks have for one share of the list. Refused only for want of
     /// memory.
     pub fn at_workers<H: Threads + Sync, G: Gate + Sync>(
         &self,
-        rt: &H,
-        workers: usize,
+        crew: &Crew<'_, H, G>,
         d: RefDay,
-        gate: &G,
     ) -> Result<Vec<R::Fixed>, NoMemory>
     where
         R: Sync,
         R::Fixed: Send + Sync,
-        requires least { 1 ≤ workers }
-        requires most { workers ≤ max_workers }
         ensures { IfOk result (λ rows. rows.items ≡ relation_at R.Fixed.cmp R.meaning self.now d) }
     {
-        if workers == 1 || self.pairs.len() <= LEAST {
-            gate.enter(0);
+        if crew.workers() == 1 || self.pairs.len() <= LEAST {
+            crew.gate().enter(0);
             return self.at(d);
         }
-        let alloc = *self.pairs.allocator();
-        rows_by_workers(rt, alloc, workers, self.pairs.as_slice(), d, gate)
+        rows_by_workers(crew, self.pairs.as_slice(), d)
     }
 }

@@ -4,7 +4,7 @@ ghost use Rattle.std.specs.Prelude.{◌≤◌};
 ghost use Rattle.og_par.specs.Limits.{max_workers};
 
 use og_base::NoMemory;
-use og_par::{Gate, MAX_WORKERS, OpenGate, Piece, par_rows};
+use og_par::{Crew, Gate, MAX_WORKERS, OpenGate, Piece, par_rows};
 use std::alloc::{AllocGlobal, Global};
 use std::sync::atomic::{AtomicBool, AtomicUsize, Ordering};
 use std::thread::Threads;
@@ -102,7 +102,9 @@ fn tells_chunks<H: Threads + Sync + AllocGlobal>(
     let items = numbers(rt.alloc(), items)?;
     let counts = counts(rt.alloc())?;
     let gate = Counting { counts };
-    par_rows(rt, rt.alloc(), workers, items.as_slice(), &TenTimes, &gate)?;
+    let crew = Crew::new(rt, rt.alloc(), workers, &gate);
+    par_rows(&crew, items.as_slice(), &TenTimes)?;
+    drop(crew);
     Ok(are_told_once(gate.counts.as_slice(), chunks))
 }
 
@@ -119,14 +121,8 @@ fn numbers(alloc: Global, last: u16) -> Result<Vec<u16>, NoMemory> {
 fn two_and_the_most_workers_keep_the_order_of_the_items(rt: HostRuntime) -> Result<(), NoMemory> {
     let items: [u16; 3] = [1, 2, 3];
     for workers in [2, MAX_WORKERS] {
-        let made = par_rows(
-            &rt,
-            rt.alloc(),
-            workers,
-            items.as_slice(),
-            &TenTimes,
-            &OpenGate,
-        )?;
+        let crew = Crew::new(&rt, rt.alloc(), workers, &OpenGate);
+        let made = par_rows(&crew, items.as_slice(), &TenTimes)?;
         assert_eq!(rt;
             made.as_slice(),
             [1, 10, 2, 20, 3, 30].as_slice(),
@@ -145,7 +141,8 @@ fn two_workers_run_at_the_same_time(rt: HostRuntime) -> Result<(), NoMemory> {
         second_saw: AtomicBool::new(false),
     };
     let items = numbers(rt.alloc(), 1000)?;
-    let made = par_rows(&rt, rt.alloc(), 2, items.as_slice(), &TenTimes, &meeting)?;
+    let crew = Crew::new(&rt, rt.alloc(), 2, &meeting);
+    let made = par_rows(&crew, items.as_slice(), &TenTimes)?;
     assert_eq!(rt; made.len(), 2000);
     assert!(rt; meeting.first_saw.load(Ordering::SeqCst));
     assert!(rt; meeting.second_saw.load(Ordering::SeqCst));

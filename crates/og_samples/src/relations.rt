@@ -7,7 +7,7 @@ use crate::texts::{cell, overlap, point, row};
 use og_base::{NoMemory, RefDay, RtSet, read_ref_day, write_rt};
 use og_expr::CondDays;
 use og_ops::{Hit, test_pair};
-use og_par::OpenGate;
+use og_par::{Crew, OpenGate};
 use og_query::Expr;
 use og_rel::Rel;
 use og_time::OngoingPoint;
@@ -89,7 +89,8 @@ fn has_lines_by<H: AllocGlobal + Threads + Sync>(
     requires least { 1 ≤ workers }
     requires most { workers ≤ max_workers }
 {
-    match rel.at_workers(rt, workers, day, &OpenGate) {
+    let crew = Crew::new(rt, rt.alloc(), workers, &OpenGate);
+    match rel.at_workers(&crew, day) {
         Ok(rows) => are_lines(rt.alloc(), rows.as_slice(), text),
         Err(_) => false,
     }

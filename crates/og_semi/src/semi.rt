@@ -3,12 +3,11 @@ ghost use Rattle.std.specs.Prelude.{◌≡◌, ◌≤◌, ℤ, IfOk, filter, len
 ghost use Rattle.std.specs.List.{list_any};
 ghost use Rattle.og_base.specs.Calendar.{IsRefDay};
 ghost use Rattle.og_ops.specs.Wanted.{is_wanted};
-ghost use Rattle.og_par.specs.Limits.{max_workers};
 ghost use Rattle.og_rel.specs.Relations.{relation_at};
 
 use og_base::{DayCond, Glue, NoMemory};
 use og_ops::{BinaryOp, Glued, Matching, semijoin, semijoin_by_workers};
-use og_par::Gate;
+use og_par::{Crew, Gate};
 use og_rel::Rel;
 use std::alloc::Global;
 use std::thread::Threads;
@@ -63,31 +62,17 @@ impl<M> KeyedSemi<M> {
     /// memory.
     pub fn apply_by_workers<H: Threads + Sync, R: Glue + Drop + Sync + Send, G: Gate + Sync>(
         &self,
-        rt: &H,
-        alloc: Global,
-        workers: usize,
+        crew: &Crew<'_, H, G>,
         left: &Rel<R>,
         right: &Rel<R>,
-        gate: &G,
     ) -> Result<Rel<R>, NoMemory>
     where
         M: Matching<R> + Sync,
         R::Fixed: Send,
-        requires least { 1 ≤ workers }
-        requires most { workers ≤ max_workers }
         ensures law { IfOk result (λ r. (d : ℤ) → IsRefDay d → relation_at R.Fixed.cmp R.meaning r d
             ≡ filter (λ x. is_wanted self.now.positive (list_any (M.meets self.now.matching d x) (relation_at R.Fixed.cmp R.meaning right.now d))) (relation_at R.Fixed.cmp R.meaning left.now d)) }
         ensures size { IfOk result (λ r. length r ≤ length left.now) }
     {
-        semijoin_by_workers(
-            rt,
-            alloc,
-            workers,
-            &self.matching,
-            self.positive,
-            left,
-            right,
-            gate,
-        )
+        semijoin_by_workers(crew, &self.matching, self.positive, left, right)
     }
 }

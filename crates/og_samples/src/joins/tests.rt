@@ -6,7 +6,7 @@ use crate::joins::ByDay;
 use crate::rows::{Deadline, Passed};
 use og_base::{NoMemory, RefDay, RtSet, read_ref_day};
 use og_join::{key_join, overlap_join};
-use og_par::OpenGate;
+use og_par::{Crew, OpenGate};
 use og_rel::Rel;
 use std::process::Abort;
 use std::thread::Threads;
@@ -54,12 +54,12 @@ fn are_joined<H: AllocGlobal + Threads + Sync>(
     requires least { 1 ≤ workers }
     requires most { workers ≤ max_workers }
 {
-    let alloc = rt.alloc();
-    let by_key = key_join(rt, alloc, workers, left, right, &ByDay, &Passed, &OpenGate);
+    let crew = Crew::new(rt, rt.alloc(), workers, &OpenGate);
+    let by_key = key_join(&crew, left, right, &ByDay, &Passed);
     if !are_found(by_key, may, &[], &[may]) {
         return false;
     }
-    let by_span = overlap_join(rt, alloc, workers, left, right, &ByDay, &Passed, &OpenGate);
+    let by_span = overlap_join(&crew, left, right, &ByDay, &Passed);
     are_found(by_span, may, &[RefDay::FIRST], &[RefDay::FIRST, may])
 }
 
