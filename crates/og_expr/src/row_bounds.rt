@@ -1,5 +1,6 @@
 //! Conditions as tests of single rows.
-ghost use Rattle.std.specs.Prelude.{◌≡◌, ℤ, false, List};
+ghost use Rattle.std.specs.Prelude.{◌≡◌, ℤ, Some, IsFalse, false, List};
+ghost use Rattle.og_value.specs.Heads.{number_at};
 ghost use Rattle.og_base.specs.Calendar.{IsRefDay};
 ghost use Rattle.og_value.specs.Values.{row_at};
 ghost use Rattle.og_value.specs.declared.value.Value as values;
@@ -63,6 +64,16 @@ impl<'c> RowBounds<'c> {
             }
         }
         self.all_may_hold(row)
+    }
+
+    /// Whether the condition may hold of a row that begins with the number. Takes no memory.
+    pub fn may_begin(&self, first: &i64) -> bool
+        ensures { IsFalse result → (row : List values.Value) → number_at row 0 ≡ Some first.now → meant.may_hold row self.now ≡ false }
+    {
+        match &self.first {
+            Some(test) => test.may_begin(first),
+            None => true,
+        }
     }
 
     // The same, by all parts of the condition. Few rows come so far, so the others need not make room for this call.

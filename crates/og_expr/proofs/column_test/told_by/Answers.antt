@@ -6,7 +6,7 @@ use Rattle.og_expr.proofs.BoundLemmas.{may_hold-And}
 use Rattle.og_expr.proofs.column_test.told_by.Goals as goal
 
 pub returns-in-And : goal.returns-in-And
-returns-in-And c = told c.first_of.result c.first_of.ensures
+returns-in-And c = told c.test_of_all.result c.test_of_all.ensures
   where
     told : (found : Option ColumnTest) → IfSome found (λ test. TellsAll test c.in-And.parts) → IfSome found (λ test. Tells test c.args.cond.now)
     told None h = h
