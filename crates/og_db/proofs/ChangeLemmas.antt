@@ -86,11 +86,6 @@ module _ {R F : Type 0} {cmp : F → F → Ordering} (o : IsExactOrder cmp) (at 
           ∙ (λ i. list_any (λ p. either (touch p.0) (holds_day p.1 d) (t (at p.0 d)) (asked t (at p.0 d)) (λ out. same p.0 out t) i) rel)
           ∙ sym (made t (relation_at cmp at rel d) ∙ list_any-relation_at o at (asked t) rel d)
 
--- so many rows there are then: as before, where the touched rows are not counted and what stands in their place is
-pub length-instead : {R : Type 0} (touch : R → Bool) (rel more : List (R × List Range)) → length (instead touch more rel) + length (passing touch rel) ≡ length rel + length more
-length-instead touch rel more =
-    omega (arith, length-append (others touch rel) more, length-filter_both (λ p. touch p.0) (λ p. not (touch p.0)) (λ p. refl) rel)
-
 module _ (touch : List Value → Bool) (cond : Cond) (never : (row : List Value) → touch row ≡ false → (d : ℤ) → IsRefDay d → truth d (row_at row d) cond ≡ false) where
   module _ (rel rows : Relation) (touched : rows ≡ passing touch rel) (d : ℤ) (day : IsRefDay d) where
     -- the rows of which the condition holds are among the touched ones
@@ -111,64 +106,7 @@ module _ (touch : List Value → Bool) (cond : Cond) (never : (row : List Value)
         stays : Fixed → Bool
         stays row = not (truth d row cond)
 
-    -- what an update makes of the touched rows, in their place, is what it makes of all
-    pub changed-instead : (sets : List Assign) (changed : Relation)
-        → relation_at row_order row_at changed d ≡ set_of row_order (map (λ row. if truth d row cond then assigned d sets row else row) (relation_at row_order row_at rows d))
-        → relation_at row_order row_at (instead touch changed rel) d ≡ set_of row_order (map (λ row. if truth d row cond then assigned d sets row else row) (relation_at row_order row_at rel d))
-    changed-instead sets changed law =
-        relation_at-instead rows_ordered row_at touch d rel made (λ t x. t (new x)) (λ t xs. list_any-set_of_map rows_ordered.exact t new xs)
-        (λ row out t. ap (λ b. t (if b then assigned d sets (row_at row d) else row_at row d)) (sym (never row out d day))) changed
-        (law ∙ ap (λ rows. made (relation_at row_order row_at rows d)) touched)
-        ∙ set_of-set_of rows_ordered (map new (relation_at row_order row_at rel d))
-      where
-        new : Fixed → Fixed
-        new row = if truth d row cond then assigned d sets row else row
-
-        made : List Fixed → List Fixed
-        made rows = set_of row_order (map new rows)
-
-  module _ (db : List (Held Relation)) (name : List ℕ) (rel rows : Relation) (is : rows_of db name ≡ Some rel) (apart : IsDistinct bytes_eq (map (λ h. h.name) db)) (touched : rows ≡ passing touch rel) where
-    -- so a name is changed as DELETE says
-    pub left_names : (left : Relation) → ((d : ℤ) → IsRefDay d → relation_at row_order row_at left d ≡ filter (λ row. not (truth d row cond)) (relation_at row_order row_at rows d))
-        → (d : ℤ) → IsRefDay d → names_at d (changed_at name (instead touch left) db) ≡ names_after d (names_at d db) (t.Delete name cond, tt)
-    left_names left law d day =
-        ap (names_at d) (sym (put_at-made name rel (instead touch left) db is apart))
-        ∙ made_of-changed_to name (λ rows. relation_at row_order row_at rows d) rel (instead touch left rel) (filter (λ row. not (truth d row cond))) db is apart
-        (left-instead rel rows touched d day left (law d day))
-
-    -- with no more rows than its size
-    pub left_sizes : (left : Relation) → length left ≤ length rows
-        → AreWithin (sizes_at (changed_at name (instead touch left) db)) (name_sizes_after (sizes_at db) (t.Delete name cond, tt))
-    left_sizes left most =
-        subst (λ now. AreWithin (sizes_at now) (sizes_at db)) (put_at-made name rel (instead touch left) db is apart)
-        (subst (AreWithin (sizes_at (changed_at name (λ _. instead touch left rel) db))) (changed_same name (sizes_at db))
-        (within-made_to name length rel (instead touch left rel) (λ n. n) db is apart (omega (arith, length-instead touch rel left, most, ap length touched))))
-
-    -- and as UPDATE says
-    pub changed_names : (sets : List Assign) (changed : Relation)
-        → ((d : ℤ) → IsRefDay d → relation_at row_order row_at changed d
-        ≡ set_of row_order (map (λ row. if truth d row cond then assigned d sets row else row) (relation_at row_order row_at rows d)))
-        → (d : ℤ) → IsRefDay d → names_at d (changed_at name (instead touch changed) db) ≡ names_after d (names_at d db) (t.Update name sets cond, tt)
-    changed_names sets changed law d day =
-        ap (names_at d) (sym (put_at-made name rel (instead touch changed) db is apart))
-        ∙ made_of-changed_to name (λ rows. relation_at row_order row_at rows d) rel (instead touch changed rel)
-        (λ rows. set_of row_order (map (λ row. if truth d row cond then assigned d sets row else row) rows)) db is apart
-        (changed-instead rel rows touched d day sets changed (law d day))
-
-    -- with no more rows than its size
-    pub changed_sizes : (sets : List Assign) (changed : Relation) → length changed ≤ 2 * length rows
-        → AreWithin (sizes_at (changed_at name (instead touch changed) db)) (name_sizes_after (sizes_at db) (t.Update name sets cond, tt))
-    changed_sizes sets changed most =
-        subst (λ now. AreWithin (sizes_at now) (name_sizes_after (sizes_at db) (t.Update name sets cond, tt))) (put_at-made name rel (instead touch changed) db is apart)
-        (within-made_to name length rel (instead touch changed rel) (λ n. 2 * n) db is apart
-        (omega (arith, length-instead touch rel changed, most, ap length touched, length-filter_both (λ p. touch p.0) (λ p. not (touch p.0)) (λ p. refl) rel)))
-
 module _ (columns : List Column) (test : List Value → Bool) (rel : Relation) (fit : HaveKinds columns rel) where
   -- rows that pass a test fit
   pub passing_fit : HaveKinds columns (passing test rel)
   passing_fit = All-filter (λ p. test p.0) (λ p. IsFitRow columns p.0) rel fit
-
-  -- and so do the others with more that fit
-  pub instead_fit : (more : Relation) → HaveKinds columns more → HaveKinds columns (instead test more rel)
-  instead_fit more more_fit =
-      All-append (λ p. IsFitRow columns p.0) (others test rel) more (All-filter (λ p. not (test p.0)) (λ p. IsFitRow columns p.0) rel fit) more_fit

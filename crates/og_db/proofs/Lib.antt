@@ -1,4 +1,5 @@
 pub mod ChangeLemmas
+pub mod DeltaLemmas
 pub mod EffectLemmas
 pub mod EntryLemmas
 pub mod FitLemmas

@@ -1,4 +1,5 @@
 pub mod Database
+pub mod Deltas
 pub mod Effects
 pub mod Entries
 pub mod Fits

@@ -10,10 +10,10 @@ use og_query::Assign;
 use og_value::{Row, Value};
 use std::alloc::Global;
 
-/// Assignments, as the row with the new values, each computed from the old row.
+// Assignments, as the row with the new values, each computed from the old row.
 #[derive(Drop)]
-pub struct Assignments<'a> {
-    pub sets: &'a [Assign],
+pub(crate) struct Assignments<'a> {
+    pub(crate) sets: &'a [Assign],
 }
 
 impl RowMap<Row> for Assignments<'_> {

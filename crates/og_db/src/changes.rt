@@ -1,9 +1,9 @@
 //! What a change makes of rows: what is taken of them, what is left, and what assignments make of them.
-ghost use Rattle.std.specs.Prelude.{◌≡◌, ◌*◌, ◌≤◌, ℤ, List, IfOk, filter, if◌then◌else◌, length, map, not};
+ghost use Rattle.std.specs.Prelude.{◌≡◌, ◌≤◌, ℤ, List, IfOk, filter, length, map, not};
 ghost use Rattle.std.specs.List.{All};
 ghost use Rattle.og_base.specs.Calendar.{IsRefDay};
 ghost use Rattle.og_base.specs.Set.{set_of};
-ghost use Rattle.og_rel.specs.Relations.{passing, relation_at};
+ghost use Rattle.og_rel.specs.Relations.{relation_at};
 ghost use Rattle.og_value.specs.Order.{row_order};
 ghost use Rattle.og_value.specs.Values.{row_at};
 ghost use Rattle.og_value.specs.declared.schema.Column.{Column};
@@ -17,14 +17,14 @@ use crate::assignments::Assignments;
 use crate::laws::fitting_rows;
 use og_base::NoMemory;
 use og_expr::CondDays;
-use og_ops::{Project, Restrict, Select, Split, UnaryOp};
+use og_ops::{Project, Restrict, Select, UnaryOp};
 use og_query::{Assign, Cond};
-use og_rel::{Rel, RowTest};
+use og_rel::Rel;
 use og_value::Row;
 use std::alloc::Global;
 
-/// The rows, each on the days on which the condition does not hold of it. Refused only for want of memory.
-pub fn left_of(alloc: Global, rows: &Rel<Row>, cond: &Cond) -> Result<Rel<Row>, NoMemory>
+// The rows, each on the days on which the condition does not hold of it. Refused only for want of memory.
+pub(crate) fn left_of(alloc: Global, rows: &Rel<Row>, cond: &Cond) -> Result<Rel<Row>, NoMemory>
     ensures law { IfOk result (λ left. (d : ℤ) → IsRefDay d → relation_at row_order row_at left d
         ≡ filter (λ row. not (truth d row cond.now)) (relation_at row_order row_at rows.now d)) }
     ensures kinds { IfOk result (λ left. (columns : List Column) → HaveKinds columns rows.now → HaveKinds columns left) }
@@ -36,29 +36,12 @@ pub fn left_of(alloc: Global, rows: &Rel<Row>, cond: &Cond) -> Result<Rel<Row>, 
     made_of(alloc, rows, &left)
 }
 
-/// What `left_of` gives of the rows that pass the test, of which none is copied before.
-pub(crate) fn left_of_passing<T: RowTest<Row>>(
-    alloc: Global,
-    rows: &Rel<Row>,
-    test: &T,
-    cond: &Cond,
-) -> Result<Rel<Row>, NoMemory>
-    ensures law { IfOk result (λ left. (d : ℤ) → IsRefDay d → relation_at row_order row_at left d
-        ≡ filter (λ row. not (truth d row cond.now)) (relation_at row_order row_at (passing (T.passes test.now) rows.now) d)) }
-    ensures kinds { IfOk result (λ left. (columns : List Column) → HaveKinds columns rows.now → HaveKinds columns left) }
-    ensures size { IfOk result (λ left. length left ≤ length (passing (T.passes test.now) rows.now)) }
-{
-    let restrict = Restrict {
-        cond: CondDays { cond },
-    };
-    made_of_passing(alloc, rows, test, &restrict)
-}
-
-/// The rows, each on the days on which the condition holds of it. Refused only for want of memory.
-pub fn gone_of(alloc: Global, rows: &Rel<Row>, cond: &Cond) -> Result<Rel<Row>, NoMemory>
+// The rows, each on the days on which the condition holds of it. Refused only for want of memory.
+pub(crate) fn gone_of(alloc: Global, rows: &Rel<Row>, cond: &Cond) -> Result<Rel<Row>, NoMemory>
     ensures law { IfOk result (λ gone. (d : ℤ) → IsRefDay d → relation_at row_order row_at gone d
         ≡ filter (λ row. truth d row cond.now) (relation_at row_order row_at rows.now d)) }
     ensures kinds { IfOk result (λ gone. (columns : List Column) → HaveKinds columns rows.now → HaveKinds columns gone) }
+    ensures size { IfOk result (λ gone. length gone ≤ length rows.now) }
 {
     let gone = Select {
         cond: CondDays { cond },
@@ -66,54 +49,17 @@ pub fn gone_of(alloc: Global, rows: &Rel<Row>, cond: &Cond) -> Result<Rel<Row>, 
     made_of(alloc, rows, &gone)
 }
 
-/// The rows, with the assigned ones in the place of those of which the condition holds, on the days on which
-/// it does. Refused only for want of memory.
-pub fn changed_of(
+// What the assignments make of the rows. Refused only for want of memory.
+pub(crate) fn assigned_of(
     alloc: Global,
     rows: &Rel<Row>,
     sets: &[Assign],
-    cond: &Cond,
 ) -> Result<Rel<Row>, NoMemory>
-    ensures law { IfOk result (λ changed. (d : ℤ) → IsRefDay d → relation_at row_order row_at changed d
-        ≡ set_of row_order (map (λ row. if truth d row cond.now then assigned d sets.now row else row) (relation_at row_order row_at rows.now d))) }
-    ensures kinds { IfOk result (λ changed. (columns : List Column) → All (IsFitAssign columns) sets.now →
-        HaveKinds columns rows.now → HaveKinds columns changed) }
-    ensures size { IfOk result (λ changed. length changed ≤ 2 * length rows.now) }
-{
-    let changed = Split {
-        cond: CondDays { cond },
-        items: Assignments { sets },
-    };
-    made_of(alloc, rows, &changed)
-}
-
-/// What `changed_of` gives of the rows that pass the test, of which none is copied before.
-pub(crate) fn changed_of_passing<T: RowTest<Row>>(
-    alloc: Global,
-    rows: &Rel<Row>,
-    test: &T,
-    sets: &[Assign],
-    cond: &Cond,
-) -> Result<Rel<Row>, NoMemory>
-    ensures law { IfOk result (λ changed. (d : ℤ) → IsRefDay d → relation_at row_order row_at changed d
-        ≡ set_of row_order (map (λ row. if truth d row cond.now then assigned d sets.now row else row) (relation_at row_order row_at (passing (T.passes test.now) rows.now) d))) }
-    ensures kinds { IfOk result (λ changed. (columns : List Column) → All (IsFitAssign columns) sets.now →
-        HaveKinds columns rows.now → HaveKinds columns changed) }
-    ensures size { IfOk result (λ changed. length changed ≤ 2 * length (passing (T.passes test.now) rows.now)) }
-{
-    let split = Split {
-        cond: CondDays { cond },
-        items: Assignments { sets },
-    };
-    made_of_passing(alloc, rows, test, &split)
-}
-
-/// What the assignments make of the rows. Refused only for want of memory.
-pub fn assigned_of(alloc: Global, rows: &Rel<Row>, sets: &[Assign]) -> Result<Rel<Row>, NoMemory>
     ensures law { IfOk result (λ made. (d : ℤ) → IsRefDay d → relation_at row_order row_at made d
         ≡ set_of row_order (map (assigned d sets.now) (relation_at row_order row_at rows.now d))) }
     ensures kinds { IfOk result (λ made. (columns : List Column) → All (IsFitAssign columns) sets.now →
         HaveKinds columns rows.now → HaveKinds columns made) }
+    ensures size { IfOk result (λ made. length made ≤ length rows.now) }
 {
     let assigned = Project {
         items: Assignments { sets },
@@ -131,25 +77,6 @@ fn made_of<O: UnaryOp<Row>>(alloc: Global, rows: &Rel<Row>, op: &O) -> Result<Re
 {
     fitting_rows();
     let made = op.apply(alloc, rows)?;
-    made.some_days();
-    Ok(made)
-}
-
-// What the operator makes of the rows that pass the test: they fit columns where it keeps what fits them.
-fn made_of_passing<O: UnaryOp<Row>, T: RowTest<Row>>(
-    alloc: Global,
-    rows: &Rel<Row>,
-    test: &T,
-    op: &O,
-) -> Result<Rel<Row>, NoMemory>
-    ensures law { IfOk result (λ made. (d : ℤ) → IsRefDay d → relation_at row_order row_at made d
-        ≡ O.plain op.now d (relation_at row_order row_at (passing (T.passes test.now) rows.now) d)) }
-    ensures kinds { IfOk result (λ made. (columns : List Column) → KeepsKinds columns (O.plain op.now) →
-        HaveKinds columns rows.now → HaveKinds columns made) }
-    ensures size { IfOk result (λ made. length made ≤ O.most op.now (length (passing (T.passes test.now) rows.now))) }
-{
-    fitting_rows();
-    let made = op.apply_passing(alloc, rows, test)?;
     made.some_days();
     Ok(made)
 }

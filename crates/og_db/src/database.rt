@@ -3,34 +3,31 @@ ghost use Rattle.std.specs.Prelude.{◌≡◌, ◌++◌, ◌<◌, ◌≤◌, ℕ
 ghost use Rattle.std.specs.List.{All, IsDistinct};
 ghost use Rattle.std.specs.Str.{bytes_eq};
 ghost use Rattle.og_base.specs.Calendar.{IsRefDay};
-ghost use Rattle.og_rel.specs.Relations.{instead, passing, relation_at};
+ghost use Rattle.std.specs.Option.{option_map};
+ghost use Rattle.og_rel.specs.Relations.{relation_at};
 ghost use Rattle.og_value.specs.Order.{row_order};
 ghost use Rattle.og_value.specs.Values.{row_at};
 ghost use Rattle.og_value.specs.declared.kind.What.TheVariants as what;
 ghost use Rattle.og_value.specs.declared.schema.Column.{Column};
-ghost use Rattle.og_query.specs.Fits.{IsFitRow, IsFitAssign, IsNew, schemas_of};
+ghost use Rattle.og_query.specs.Fits.{IsNew, schemas_of};
 ghost use Rattle.og_query.specs.Queries.{ordinary_query};
 ghost use Rattle.og_query.specs.Sizes.{query_size};
 ghost use Rattle.og_query.specs.declared.query.Query.{Query};
 ghost use Rattle.og_query.specs.declared.typed.Typed.TheVariants as t;
-ghost use Rattle.og_expr.specs.Bounds.{may_hold};
-ghost use Rattle.og_db.specs.Held.{Held, known_of, rows_of, changed_at, put_at, without};
-ghost use Rattle.og_db.specs.Insertion.{on_all_days};
+ghost use Rattle.og_db.specs.Deltas.{IsApplied, IsDelta};
+ghost use Rattle.og_db.specs.Held.{Held, known_of, rows_of, without};
 ghost use Rattle.og_db.specs.Live.{kept_at};
 ghost use Rattle.og_db.specs.Runs.{AreWithin, is_stored, sizes_at, stored};
 ghost use Rattle.og_db.specs.Statements.{named_rows, named_sizes, names_after, name_sizes_after};
-ghost use Rattle.og_db.specs.Database.{Relation, HaveKinds, IsTableOf, IsLiveOf, AreKept, names_at};
+ghost use Rattle.og_db.specs.Database.{Relation, HaveKinds, IsTableOf, IsLiveOf, names_at};
 
-use crate::changes::{changed_of_passing, left_of_passing};
+use crate::delta::{Delta, apply};
 use crate::holding::Holding;
-use crate::insertion::on_all_days;
 use crate::sought::Sought;
-use crate::touched::Touched;
 use indexmap::IndexMap;
 use og_base::NoMemory;
-use og_expr::bounds_hold;
-use og_query::{Assign, Cond};
-use og_rel::{Rel, RowTest, Tables};
+use og_reduce::Stored;
+use og_rel::{Rel, Tables};
 use og_value::{Catalog, Name, Row, Schema, What};
 use std::alloc::Global;
 use std::marker::Model;
@@ -111,11 +108,12 @@ impl Db {
         requires { (columns : List Column) × IsLiveOf columns self.old name.now × HaveKinds columns rel }
         ensures { self.new ≡ kept_at name.now rel self.old }
     {
-        if let Some(at) = self.names.get_index_of(name) {
-            let held = &mut self.names[at];
-            held.what = What::Kept;
-            held.rel = rel;
-        }
+        let Some(at) = self.names.get_index_of(name) else {
+            unreachable!();
+        };
+        let held = &mut self.names[at];
+        held.what = What::Kept;
+        held.rel = Stored::bare(rel);
     }
 
     /// Takes all live results out. The others keep their order. Takes no memory.
@@ -143,127 +141,45 @@ impl Db {
         ensures entered { OnOk result (self.new ≡ self.old ++ record { name = name; what = what; columns = schema; rows = rel } ∷ []) }
         ensures refused { OnErr result (self.new ≡ self.old) }
     {
+        let rel = Stored::new(*self.names.allocator(), rel);
         self.names.insert(name, Holding { what, schema, rel })?;
         Ok(())
     }
 
-    // Adds the rows at the end of those of a table.
-    fn add(&mut self, name: &Name, more: Rel<Row>) -> Result<(), NoMemory>
-        requires { (columns : List Column) × IsTableOf columns self.old name.now × HaveKinds columns more }
-        ensures added { OnOk result (self.new ≡ changed_at name.now (λ rows. rows ++ more) self.old) }
-        ensures refused { OnErr result (self.new ≡ self.old) }
-    {
-        let Some(at) = self.names.get_index_of(name) else {
-            return Ok(());
-        };
-        self.names[at].rel.append(more)
-    }
-
-    /// Puts a relation in the place of that of a table. Takes no memory.
-    pub fn put(&mut self, name: &Name, rel: Rel<Row>)
-        requires { (columns : List Column) × IsTableOf columns self.old name.now × HaveKinds columns rel }
-        ensures { self.new ≡ put_at name.now rel self.old }
-    {
-        if let Some(at) = self.names.get_index_of(name) {
-            self.names[at].rel = rel;
-        }
-    }
-
-    /// The rows of a table that a change may touch, once more. Refused only for want of memory.
-    pub fn touched(&self, name: &Name, test: &Touched<'_>) -> Result<Rel<Row>, NoMemory>
-        requires table { (columns : List Column) × IsTableOf columns self.now name.now }
-        ensures rows { IfOk result (λ rows. (rel : Relation) → rows_of self.now name.now ≡ Some rel →
-            rows ≡ passing (λ row. may_hold row test.now) rel) }
-        ensures fits { IfOk result (λ rows. (columns : List Column) → IsTableOf columns self.now name.now → HaveKinds columns rows) }
-    {
-        self.table(name).passing(test)
-    }
-
-    // The rows of a table.
-    fn table(&self, name: &Name) -> &Rel<Row>
+    /// The rows of a table, as they are stored. Takes no memory.
+    pub fn table(&self, name: &Name) -> &Stored
         requires table { (columns : List Column) × IsTableOf columns self.now name.now }
         ensures rows { (rel : Relation) → rows_of self.now name.now ≡ Some rel → result.now ≡ rel }
         ensures fits { (columns : List Column) → IsTableOf columns self.now name.now → HaveKinds columns result.now }
     {
         self.rows_fit();
-        let Some(rel) = self.rel(name.bytes()) else {
+        let Some(rel) = self.stored(name) else {
             unreachable!();
         };
         rel
     }
 
-    /// Puts `more` in the place of the rows of a table that pass the test. Refused only for want of memory, and
-    /// then nothing has changed.
-    pub fn replace<T: RowTest<Row>>(
-        &mut self,
-        name: &Name,
-        test: &T,
-        more: Rel<Row>,
-    ) -> Result<(), NoMemory>
-        requires table { (columns : List Column) × IsTableOf columns self.old name.now × HaveKinds columns more }
-        ensures replaced { OnOk result (self.new ≡ changed_at name.now (instead (T.passes test.now) more) self.old) }
+    /// The rows of a name, as they are stored; None where it is not known. Takes no memory.
+    pub fn stored(&self, name: &Name) -> Option<&Stored>
+        ensures { option_map (λ rel. rel.now) result ≡ rows_of self.now name.now }
+    {
+        match self.names.get(name) {
+            Some(holding) => Some(&holding.rel),
+            None => None,
+        }
+    }
+
+    /// Puts a delta into its table: what is left of the touched rows and what is new stands behind the others.
+    /// No other row is moved or copied. Refused only for want of memory, and then nothing has changed.
+    pub fn apply(&mut self, name: &Name, delta: Delta) -> Result<(), NoMemory>
+        requires { IsDelta self.old name.now delta }
+        ensures applied { OnOk result (IsApplied name.now delta self.old self.new) }
         ensures refused { OnErr result (self.new ≡ self.old) }
     {
         let Some(at) = self.names.get_index_of(name) else {
             unreachable!();
         };
-        self.names[at].rel.replace(test, more)
-    }
-
-    /// Adds the rows to a table, each present on all days. Refused only for want of memory, and then
-    /// nothing has changed.
-    pub fn insert(&mut self, name: &Name, rows: Vec<Row>) -> Result<(), NoMemory>
-        requires table { (columns : List Column) × IsTableOf columns self.old name.now × All (IsFitRow columns) rows.items }
-        ensures added { OnOk result (self.new ≡ changed_at name.now (λ rel. rel ++ on_all_days rows.items) self.old) }
-        ensures law { OnOk result ((d : ℤ) → IsRefDay d →
-            names_at d self.new ≡ names_after d (names_at d self.old) (t.Insert name.now rows.items, tt)) }
-        ensures known { OnOk result ((other : List ℕ) → known_of self.new other ≡ known_of self.old other) }
-        ensures others { OnOk result (AreKept name.now self.old self.new) }
-        ensures size { OnOk result (AreWithin (sizes_at self.new) (name_sizes_after (sizes_at self.old) (t.Insert name.now rows.items, tt))) }
-        ensures refused { OnErr result (self.new ≡ self.old) }
-    {
-        let more = on_all_days(*self.names.allocator(), rows)?;
-        self.add(name, more)
-    }
-
-    /// Takes the rows of which the condition holds from a table, each on the days on which it does.
-    /// Refused only for want of memory, and then nothing has changed.
-    pub fn delete(&mut self, name: &Name, cond: &Cond) -> Result<(), NoMemory>
-        requires table { (columns : List Column) × IsTableOf columns self.old name.now }
-        ensures law { OnOk result ((d : ℤ) → IsRefDay d →
-            names_at d self.new ≡ names_after d (names_at d self.old) (t.Delete name.now cond.now, tt)) }
-        ensures known { OnOk result ((other : List ℕ) → known_of self.new other ≡ known_of self.old other) }
-        ensures others { OnOk result (AreKept name.now self.old self.new) }
-        ensures size { OnOk result (AreWithin (sizes_at self.new) (name_sizes_after (sizes_at self.old) (t.Delete name.now cond.now, tt))) }
-        ensures refused { OnErr result (self.new ≡ self.old) }
-    {
-        bounds_hold();
-        self.names_differ();
-        self.rows_fit();
-        let alloc = *self.names.allocator();
-        let test = Touched::new(alloc, cond);
-        let left = left_of_passing(alloc, self.table(name), &test, cond)?;
-        self.replace(name, &test, left)
-    }
-
-    /// Puts the assigned rows in the place of the rows of a table of which the condition holds, on the
-    /// days on which it does. Refused only for want of memory, and then nothing has changed.
-    pub fn update(&mut self, name: &Name, sets: &[Assign], cond: &Cond) -> Result<(), NoMemory>
-        requires table { (columns : List Column) × IsTableOf columns self.old name.now × All (IsFitAssign columns) sets.now }
-        ensures law { OnOk result ((d : ℤ) → IsRefDay d →
-            names_at d self.new ≡ names_after d (names_at d self.old) (t.Update name.now sets.now cond.now, tt)) }
-        ensures known { OnOk result ((other : List ℕ) → known_of self.new other ≡ known_of self.old other) }
-        ensures others { OnOk result (AreKept name.now self.old self.new) }
-        ensures size { OnOk result (AreWithin (sizes_at self.new) (name_sizes_after (sizes_at self.old) (t.Update name.now sets.now cond.now, tt))) }
-        ensures refused { OnErr result (self.new ≡ self.old) }
-    {
-        bounds_hold();
-        self.names_differ();
-        self.rows_fit();
-        let alloc = *self.names.allocator();
-        let test = Touched::new(alloc, cond);
-        let changed = changed_of_passing(alloc, self.table(name), &test, sets, cond)?;
-        self.replace(name, &test, changed)
+        apply(&mut self.names[at].rel, delta)
     }
 
     /// No two names are the same.
@@ -338,7 +254,7 @@ impl Tables<Row> for Db {
 
     fn rel(&self, name: &[u8]) -> Option<&Rel<Row>> {
         match self.names.get(Sought { bytes: name }) {
-            Some(holding) => Some(&holding.rel),
+            Some(holding) => Some(holding.rel.rel()),
             None => None,
         }
     }

@@ -7,8 +7,8 @@ use og_rel::Rel;
 use og_value::Row;
 use std::alloc::Global;
 
-/// The rows, each present on all days. Refused only for want of memory.
-pub fn on_all_days(alloc: Global, rows: Vec<Row>) -> Result<Rel<Row>, NoMemory>
+// The rows, each present on all days. Refused only for want of memory.
+pub(crate) fn on_all_days(alloc: Global, rows: Vec<Row>) -> Result<Rel<Row>, NoMemory>
     ensures { IfOk result (λ rel. rel ≡ on_all_days rows.items) }
 {
     let mut rel = Rel::new(alloc);

@@ -3,15 +3,16 @@ ghost use Rattle.std.specs.Prelude.{◌≡◌};
 
 use og_expr::RowBounds;
 use og_query::Cond;
+use og_reduce::HeadTest;
 use og_rel::RowTest;
 use og_value::Row;
 use std::alloc::Global;
 use std::marker::Model;
 
-/// The rows that a change with a condition may touch: those of which the condition may hold on some day.
-/// Seen as the condition.
+// The rows that a change with a condition may touch: those of which the condition may hold on some day.
+// Seen as the condition.
 #[derive(Drop)]
-pub struct Touched<'c> {
+pub(crate) struct Touched<'c> {
     bounds: RowBounds<'c>,
 }
 
@@ -28,8 +29,8 @@ impl<'c> Model for Touched<'c> {
 }
 
 impl<'c> Touched<'c> {
-    /// The rows that a change with this condition may touch. Takes no memory.
-    pub fn new(alloc: Global, cond: &'c Cond) -> Touched<'c>
+    // The rows that a change with this condition may touch. Takes no memory.
+    pub(crate) fn new(alloc: Global, cond: &'c Cond) -> Touched<'c>
         ensures { result ≡ cond.now }
     {
         Touched {
@@ -45,5 +46,11 @@ impl RowTest<Row> for Touched<'_> {
 
     fn test(&self, row: &Row) -> bool {
         self.bounds.may_hold(row)
+    }
+}
+
+impl HeadTest for Touched<'_> {
+    fn may_begin(&self, first: &i64) -> bool {
+        self.bounds.may_begin(first)
     }
 }

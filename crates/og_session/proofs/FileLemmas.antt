@@ -38,8 +38,8 @@ use Rattle.og_faults.specs.declared.stop.Stop.TheVariants as stops
 use Rattle.og_session.specs.Contents.{AreContents, Content, Contents, IsContent, IsHeld, IsSavedContent, IsTableContent, columns_after, effect_of, importing, importing_of, opening, opening_of, taken}
 use Rattle.og_session.specs.Ends.{IsHeldState, IsLeft, IsOfFile, StepEnds, is_saved_by, piece_or_line}
 use Rattle.og_session.specs.Headline.{HoldFiles, IsFileOf, no_name}
-use Rattle.og_session.specs.Names.{IsAdded, IsDone, IsRunning, Watched}
-use Rattle.og_session.proofs.StateLemmas.{saved_running}
+use Rattle.og_session.specs.Names.{IsDone, IsRunning, Watched}
+use Rattle.og_session.proofs.StateLemmas.{more_running}
 
 -- ---- the files
 
@@ -112,7 +112,7 @@ module _ (start : Folder) (n : ℕ) (before : List Effect) (db : Watched) (old :
             held_files = written_files start state.files name file old new others state.held_files h bytes has
                 (subst (λ cs. IsPlainFile bytes cs h.rows) (sym same_columns) (subst (λ rs. IsPlainFile bytes columns rs) (sym same_rows) plain));
             running = subst (λ o. IsRunning db (with_file file o state.files) (before ++ saved name file ∷ [])) is
-                (saved_running db state.files name file before state.running (law db.names state.files name file before state.running.world));
+                (more_running db db state.files _ before (saved name file) state.running (law db.names state.files name file before state.running.world) refl refl);
           },
           refl,
         )
@@ -279,8 +279,8 @@ module _ (start : Folder) (contents : Contents) (whole : AreContents start conte
   module _ (laws : SavedFiles) (bytes : List ℕ) (has : HasFile old file (Some bytes)) where
     -- the file was read and kept
     pub open-done : ReopenedMore → OpenedMore → (columns : List Column) (rel : Relation) (db' : Watched) (done : Unit {0}) → IsSavedFile bytes columns rel
-        → db'.names ≡ db.names ++ record { name = name; what = what.Kept; columns = columns; rows = rel } ∷ [] → IsAdded db db' → StepEnds start n before opens db' new [] (Ok done)
-    open-done again another columns rel db' done read kept added = let (folder, is, held) = told (Some bytes) has in by folder is (how folder held)
+        → db'.names ≡ db.names ++ record { name = name; what = what.Kept; columns = columns; rows = rel } ∷ [] → db'.views ≡ db.views → StepEnds start n before opens db' new [] (Ok done)
+    open-done again another columns rel db' done read kept views = let (folder, is, held) = told (Some bytes) has in by folder is (how folder held)
       where
         by : (folder : Folder) → folder file ≡ Some bytes → IsUnder state.files (sizes_after before).files contents folder file → StepEnds start n before opens db' new [] (Ok done)
         by folder is (was_saved h found_is m size bytes' now version) =
@@ -294,8 +294,7 @@ module _ (start : Folder) (contents : Contents) (whole : AreContents start conte
               record {
                 files = state.files;
                 held_files = held;
-                running = added state.files before (reopened name file) (kept_as name m) state.running (subst (λ d. IsWorldOf d state.files (before ++ reopened name file ∷ [])) as_kept world)
-                    (ap (λ o. with_name name o (sizes_after before).names) size) refl;
+                running = more_running db db' state.files state.files before (reopened name file) state.running (subst (λ d. IsWorldOf d state.files (before ++ reopened name file ∷ [])) as_kept world) views refl;
               },
               refl,
             )
@@ -313,8 +312,8 @@ module _ (start : Folder) (contents : Contents) (whole : AreContents start conte
                   record {
                     files = state.files;
                     held_files = held;
-                    running = added state.files before (opened name table.0 table.1) (record { name = name; what = what.Kept; columns = table.0; rows = length table.1 }) state.running
-                        (subst (λ d. IsWorldOf d state.files (before ++ opened name table.0 table.1 ∷ [])) as_kept world) refl refl;
+                    running = more_running db db' state.files state.files before (opened name table.0 table.1) state.running
+                        (subst (λ d. IsWorldOf d state.files (before ++ opened name table.0 table.1 ∷ [])) as_kept world) views refl;
                   },
                   refl,
                 )

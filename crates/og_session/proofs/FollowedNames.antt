@@ -26,6 +26,19 @@ module _ {V : Type 0} where
       at true rest = refl
       at false rest = rest
 
+  -- what was found is found
+  pub found-more : (hs : List (Held V)) (h : Held V) (name : List ℕ) (k : What × List Column) → known_of hs name ≡ Some k → found (hs ++ h ∷ []) name ≡ found hs name
+  found-more hs h name k is = found-push hs h name ∙ at (found hs name) is
+    where
+      at : (o : Option (Held V)) → option_map described o ≡ Some k → first_of o (cond (bytes_eq name h.name) (Some h) None) ≡ o
+      at (Some g) is = refl
+      at None is = cc is
+
+  -- the live ones have what their queries answer
+  pub refreshed-push : (f : Query → V) (live : List Live) (hs : List (Held V)) (h : Held V) → refreshed f live (hs ++ h ∷ []) ≡ refreshed f live hs ++ answered f (query_of live h.name) h ∷ []
+  refreshed-push f live [] h = refl
+  refreshed-push f live (k ∷ hs) h = ap (λ rest. answered f (query_of live k.name) k ∷ rest) (refreshed-push f live hs h)
+
   -- names that are each changed, and stay
   found-each : (change : List ℕ → Held V → Held V) → ((h : Held V) → (change h.name h).name ≡ h.name) → (hs : List (Held V)) (name : List ℕ) → found (map (λ h. change h.name h) hs) name ≡ option_map (change name) (found hs name)
   found-each change stays [] name = refl
@@ -63,6 +76,23 @@ module _ {V : Type 0} where
           let rows_are = same_Some h.rows rows has in
           λ i. Some (record { name = sym same i; what = (is i).0; columns = (is i).1; rows = rows_are i })
       at false here known has rest = rest known has
+
+-- a name that is settled keeps its rows
+pub rows_of-settled : {V : Type 0} (before now : List Live) (hs : List (Held V)) (name : List ℕ) → rows_of (settled before now hs) name ≡ rows_of hs name
+rows_of-settled {V} before now hs name =
+    ap (option_map (λ h. h.rows)) (found-each (λ n h. one (has_ended before now n) h) (λ h. stays (has_ended before now h.name) h) hs name) ∙ by (has_ended before now name) (found hs name)
+  where
+    one : Bool → Held V → Held V
+    one b h = if b then kept_with h.rows h else h
+
+    stays : (b : Bool) (h : Held V) → (one b h).name ≡ h.name
+    stays true h = refl
+    stays false h = refl
+
+    by : (b : Bool) (o : Option (Held V)) → option_map (λ h. h.rows) (option_map (one b) o) ≡ option_map (λ h. h.rows) o
+    by b None = refl
+    by true (Some h) = refl
+    by false (Some h) = refl
 
 -- live results with one more behind them
 pub query_of-push : (live : List Live) (l : Live) (name : List ℕ) → query_of (live ++ l ∷ []) name ≡ first_of (query_of live name) (cond (bytes_eq name l.name) (Some l.query) None)

@@ -2,7 +2,6 @@ pub mod AnswerLemmas
 pub mod AskLemmas
 pub mod CatalogLemmas
 pub mod ChangeSteps
-pub mod ChangedNames
 pub mod ContentLemmas
 pub mod DropLemmas
 pub mod DropNames
@@ -19,6 +18,7 @@ pub mod LeftLemmas
 pub mod LiveChecks
 pub mod LiveLaw
 pub mod LiveSteps
+pub mod LiveViews
 pub mod LiveWorlds
 pub mod NameLemmas
 pub mod NameSteps

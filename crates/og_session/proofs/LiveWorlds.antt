@@ -19,11 +19,9 @@ use Rattle.og_db.specs.Held.{Held, changed_at, described, found, known_of, made_
 use Rattle.og_db.specs.Live.{Live, ends_with, kept_with, live_after, query_of, uses}
 use Rattle.og_db.specs.Statements.{Names, OfNames, named_rows, names_after, or_else}
 use Rattle.og_db.proofs.WorldLemmas.{known_of-changed_at}
-use Rattle.og_view.proofs.BaseLemmas.{table_known}
-use Rattle.og_view.proofs.ViewLemmas.{used_has_columns}
-use Rattle.og_session.proofs.ChangedNames.{found-more}
-use Rattle.og_session.proofs.FollowedNames.{first_of, found-ended, found-live, found-plain, found-push, found-without, found_is, left, query_of-push}
-use Rattle.og_session.proofs.QueryLemmas.{query_same}
+use Rattle.og_session.proofs.FollowedNames.{first_of, found-ended, found-live, found-more, found-plain, found-push, found-without, found_is, left, query_of-push}
+use Rattle.og_view.proofs.UsedLemmas.{query_same}
+use Rattle.og_session.proofs.QueryLemmas.{used_differs, used_table}
 
 -- ---- what is known of live results
 
@@ -188,9 +186,8 @@ module _ (d : ℤ) (names : Names) (live : List Live) (right : All (IsRight d na
           own = query_of-push live last name
               ∙ (λ i. first_of (no_query names name (ap is_live new) live known_before i) (cond (nat_list_eq_equiv.refl name i) (Some query) None));
           tables = λ other used.
-              let has = used_has_columns (tables_of (known_of names)) other query fits used in
-              let is = table_known (known_of names other) has.0 has.1 in
-              ((has.0, is), (has.0, keeps-more more other (what.Table, has.0) is));
+              let table = used_table (known_of names) query fits other used in
+              (table, (table.0, keeps-more more other (what.Table, table.0) table.1));
         })
       where
         one : (l : Live) → IsRight d names live l → IsReady names (names ++ more ∷ []) (live ++ last ∷ []) l
@@ -239,18 +236,15 @@ module _ (d : ℤ) (names : Names) (live : List Live) (right : All (IsRight d na
         at_place k x = slice_index_or (lasting live) k x
 
         one : (l : Live) → IsRight d names live l → not (ends_with gone l) ≡ true → IsReady names (without gone names) (lasting live) l
-        one l r lasts = record {
-          known = ap (option_map described) (found-without gone names l.name (neither (bytes_eq gone l.name) (uses l.query gone) lasts).0) ∙ r.known;
-          own = query_of-lasting live l r.own lasts;
-          tables = λ name used. let table = r.tables name used in (table, (table.0, ap (option_map described) (found-without gone names name (other name used)) ∙ table.1));
-        }
-          where
-            other : (name : List ℕ) → uses l.query name ≡ true → bytes_eq gone name ≡ false
-            other name used = at (bytes_eq gone name) refl
-              where
-                at : (b : Bool) → bytes_eq gone name ≡ b → b ≡ false
-                at true here = absurd (true≢false (sym used ∙ ap (uses l.query) (sym (same_text gone name (sym here))) ∙ (neither (bytes_eq gone l.name) (uses l.query gone) lasts).1))
-                at false here = refl
+        one l r lasts =
+            let free = neither (bytes_eq gone l.name) (uses l.query gone) lasts in
+            record {
+              known = ap (option_map described) (found-without gone names l.name free.0) ∙ r.known;
+              own = query_of-lasting live l r.own lasts;
+              tables = λ name used.
+                  let table = r.tables name used in
+                  (table, (table.0, ap (option_map described) (found-without gone names name (used_differs l.query gone name free.1 used)) ∙ table.1));
+            }
 
     -- one whose query names what is gone has no query then
     query_of-ended : (l : Live) → query_of live l.name ≡ Some l.query → uses l.query gone ≡ true → (ls : List Live) → All (λ k. query_of live k.name ≡ Some k.query) ls → query_of (lasting ls) l.name ≡ None

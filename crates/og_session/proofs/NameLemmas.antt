@@ -70,10 +70,6 @@ module _ (views : Views) where
       at None = refl
       at (Some h) = refl
 
-  -- the relation of a name with a view
-  pub rows_of-view : (db : List (Held Relation)) (name : List ℕ) (view : Seen) (h : Held Relation) → lookup (bytes_eq name) views ≡ Some view → found db name ≡ Some h → rows_of (with_views views db) name ≡ Some view.result
-  rows_of-view db name view h is here = ap (option_map (λ h. h.rows)) (found-shown db name ∙ ap (λ o. option_map (shown o) (found db name)) is ∙ ap (option_map (shown (Some view))) here)
-
   -- a name that is not there has none
   pub rows_of-none : (db : List (Held Relation)) (name : List ℕ) → rows_of db name ≡ None → rows_of (with_views views db) name ≡ None
   rows_of-none db name none = ap (option_map (λ h. h.rows)) (found-shown db name ∙ ap (option_map (shown (lookup (bytes_eq name) views))) (at (found db name) none))
@@ -84,7 +80,9 @@ module _ (views : Views) where
 
   -- one that is there, with a view
   pub rows_of-some : (db : List (Held Relation)) (name : List ℕ) (view : Seen) (rel : Relation) → lookup (bytes_eq name) views ≡ Some view → rows_of db name ≡ Some rel → rows_of (with_views views db) name ≡ Some view.result
-  rows_of-some db name view rel is there = let h = at (found db name) there in rows_of-view db name view h.0 is h.1
+  rows_of-some db name view rel is there =
+      let h = at (found db name) there in
+      ap (option_map (λ h. h.rows)) (found-shown db name ∙ ap (λ o. option_map (shown o) (found db name)) is ∙ ap (option_map (shown (Some view))) h.1)
     where
       at : (o : Option (Held Relation)) → option_map (λ h. h.rows) o ≡ Some rel → (h : Held Relation) × (o ≡ Some h)
       at None e = cc e

@@ -11,12 +11,13 @@ use Rattle.og_query.specs.Queries.{Fixed, ordinary_query}
 use Rattle.og_query.specs.declared.query.Query.{Query}
 use Rattle.og_query.specs.declared.typed.Typed.{Typed}
 use Rattle.og_query.specs.declared.typed.Typed.TheVariants as t
-use Rattle.og_db.specs.Database.{Relation, names_at}
-use Rattle.og_db.specs.Effects.{Effect, on_names, world_of_day}
+use Rattle.og_db.specs.Database.{Relation}
+use Rattle.og_db.specs.Effects.{Effect, on_names}
 use Rattle.og_exec.specs.Tables.{rows_at}
 use Rattle.og_db.specs.Held.{Held, all_made_of, described, found, made_of, rows_of}
 use Rattle.og_db.specs.Runs.{AreWithin, IsWorldOf, sizes_at}
 use Rattle.og_db.specs.Statements.{IsOfNames, named_rows}
+use Rattle.og_db.proofs.WorldLemmas.{found-made_of}
 use Rattle.og_output.specs.Records.{layout, names_text, records, what_word}
 use Rattle.og_session.proofs.AnswerLemmas.{rows_at-world}
 use Rattle.og_session.specs.Output.{held_layout, piece_of}
@@ -25,15 +26,14 @@ use Rattle.og_session.specs.Output.{held_layout, piece_of}
 abbrev pub name_record : {V : Type 0} → Held V → List (List ℕ)
 name_record h = h.name ∷ what_word h.what ∷ []
 
-module _ (found_at : (d : ℤ) (db : List (Held Relation)) (name : List ℕ) → found (names_at d db) name ≡ option_map (made_of (λ rel. relation_at row_order row_at rel d)) (found db name))
-    (db files : List (Held Relation)) (before : List Effect) (world : IsWorldOf db files before) where
+module _ (db files : List (Held Relation)) (before : List Effect) (world : IsWorldOf db files before) where
   -- a PRINT of a name writes what the name holds on the day
   pub piece-name : (name : List ℕ) (day : ℤ) → IsRefDay day → held_layout (option_map (made_of (λ rel. relation_at row_order row_at rel day)) (found db name)) ≡ piece_of before (on_names (t.PrintName name day, tt))
-  piece-name name day is = ap held_layout (sym (found_at day db name)) ∙ ap (λ w. held_layout (found w name)) (world.names day is)
+  piece-name name day is = ap held_layout (sym (found-made_of (λ rel. relation_at row_order row_at rel day) db name)) ∙ ap (λ w. held_layout (found w name)) (world.names day is)
 
   -- a PRINT of a query writes the ordinary answer on the day
   pub piece-query : (query : Query) (day : ℤ) (rows : List Fixed) → IsRefDay day → rows ≡ ordinary_query day (rows_at (rows_of db) day) query → layout query.first.schema rows ≡ piece_of before (on_names (t.PrintQuery query day, tt))
-  piece-query query day rows is answer = ap (layout query.first.schema) (answer ∙ ap (λ rows. ordinary_query day rows query) (rows_at-world found_at day db) ∙ ap (λ w. ordinary_query day (named_rows w) query) (world.names day is))
+  piece-query query day rows is answer = ap (layout query.first.schema) (answer ∙ ap (λ rows. ordinary_query day rows query) (rows_at-world day db) ∙ ap (λ w. ordinary_query day (named_rows w) query) (world.names day is))
 
 module _ (f : Relation → List Fixed) where
   -- the layout of what is found

@@ -1,18 +1,16 @@
 -- States of the names and the files.
 use Rattle.std.proofs.Common.{◌≡◌, ◌++◌, ◌∷◌, ◌∙◌, ap, List, [], ℕ, ℤ, Option, Some, refl, sym, subst}
-use Rattle.std.specs.List.{All}
-use Rattle.std.proofs.lemmas.List.Elements.{All-nil}
 use Rattle.std.proofs.lemmas.List.Sums.{fold-append}
 use Rattle.og_value.specs.declared.value.Value.{Value}
 use Rattle.og_query.specs.declared.typed.Typed.TheVariants as t
 use Rattle.og_io.specs.Folders.{Folder}
 use Rattle.og_db.specs.Database.{Relation}
-use Rattle.og_db.specs.Effects.{Effect, imported, on_names, ordinary_statement, saved, size_after, sizes_after, with_file, world_of_day}
-use Rattle.og_db.specs.Held.{Held, found}
+use Rattle.og_db.specs.Effects.{Effect, imported, on_names, ordinary_statement, saved, size_after, sizes_after, world_of_day}
+use Rattle.og_db.specs.Held.{Held}
 use Rattle.og_db.specs.Runs.{AreWithin, IsWorldOf, sizes_at}
 use Rattle.og_session.specs.Ends.{IsHeldState, IsLeft}
 use Rattle.og_session.specs.Headline.{IsStateOf}
-use Rattle.og_session.specs.Names.{IsDone, IsRunning, IsUpToDate, Watched}
+use Rattle.og_session.specs.Names.{IsDone, IsRunning, Watched, lives_of}
 
 -- before any statement the files are those at the start
 pub state_at_start : (start : Folder) (db : List (Held Relation)) (folder : Option Folder) → IsWorldOf [] [] [] → db ≡ [] → folder ≡ Some start → IsStateOf start [] db folder
@@ -25,23 +23,19 @@ pub held_at_start : (start : Folder) (held : Watched) (folder : Option Folder) �
 held_at_start start held folder world empty told =
     subst (λ h. IsHeldState start [] h folder) (λ i. record { names = sym empty.0 i; views = sym empty.1 i })
     (subst (IsHeldState start [] (record { names = []; views = [] })) (sym told)
-    (record { files = []; held_files = λ name no. refl; running = record { world = world; live = refl; views = All-nil (IsUpToDate [] []) } }))
+    (record { files = []; held_files = λ name no. refl; running = record { world = world; live = refl } }))
 
 -- what a run would leave
 pub left_state : (start : Folder) (effects : List Effect) (held : Watched) (folder : Option Folder) → IsHeldState start effects held folder → IsLeft start effects held folder
 left_state start effects held folder state = record { files = state.files; names = held.names; held = state.held_files; world = state.running.world; left = refl }
 
--- what it holds after a SAVE
-pub saved_running : (held : Watched) (files : List (Held Relation)) (name file : List ℕ) (effects : List Effect) → IsRunning held files effects
-    → IsWorldOf held.names (with_file file (found held.names name) files) (effects ++ saved name file ∷ []) → IsRunning held (with_file file (found held.names name) files) (effects ++ saved name file ∷ [])
-saved_running held files name file effects running world = record {
+-- what it holds after an effect that leaves the views
+pub more_running : (old new : Watched) (files now : List (Held Relation)) (effects : List Effect) (effect : Effect) → IsRunning old files effects → IsWorldOf new.names now (effects ++ effect ∷ []) → new.views ≡ old.views
+    → (size_after (sizes_after effects) effect).live ≡ (sizes_after effects).live → IsRunning new now (effects ++ effect ∷ [])
+more_running old new files now effects effect running world views stays = record {
   world = world;
-  live = ap (λ s. s.live) next ∙ running.live;
-  views = subst (λ s. All (IsUpToDate held.names s.names) held.views) (sym next) running.views;
+  live = ap (λ s. s.live) (fold-append size_after (record { names = []; files = []; live = [] }) effects (effect ∷ [])) ∙ stays ∙ running.live ∙ ap lives_of (sym views);
 }
-  where
-    next : sizes_after (effects ++ saved name file ∷ []) ≡ size_after (sizes_after effects) (saved name file)
-    next = fold-append size_after (record { names = []; files = []; live = [] }) effects (saved name file ∷ [])
 
 -- what an IMPORT leaves is what an INSERT of its rows does
 pub imported_done : (old new : Watched) (name : List ℕ) (rows : List (List Value)) → IsDone old new (on_names (t.Insert name rows, tt)) → IsDone old new (imported name rows)
@@ -54,7 +48,6 @@ imported_done old new name rows done files effects running =
         saved_sizes = subst (λ s. AreWithin (sizes_at files) s.files) sizes after.world.saved_sizes;
       };
       live = sym (ap (λ s. s.live) sizes) ∙ after.live;
-      views = subst (λ s. All (IsUpToDate new.names s.names) new.views) sizes after.views;
     }
   where
     worlds : (d : ℤ) → world_of_day d (effects ++ on_names (t.Insert name rows, tt) ∷ []) ≡ world_of_day d (effects ++ imported name rows ∷ [])

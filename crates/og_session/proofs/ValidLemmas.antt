@@ -1,6 +1,5 @@
 -- The valid range of a name.
 use Rattle.std.proofs.Common.{◌≡◌, ◌↔◌, ◌∙◌, ℕ, ℤ, List, Some, refl, sym}
-use Rattle.std.specs.Option.{option_map}
 use Rattle.std.proofs.lemmas.Slice.Eq.{bytes_eq-Decides}
 use Rattle.og_base.specs.Calendar.{IsRefDay}
 use Rattle.og_base.specs.Ranges.{Range}
@@ -10,9 +9,9 @@ use Rattle.og_value.specs.Values.{row_at}
 use Rattle.og_value.specs.declared.schema.Column.{Column}
 use Rattle.og_rel.specs.Relations.{relation_at}
 use Rattle.og_query.specs.Fits.{schemas_of}
-use Rattle.og_db.specs.Database.{Relation, names_at}
+use Rattle.og_db.specs.Database.{Relation}
 use Rattle.og_db.specs.Effects.{Effect}
-use Rattle.og_db.specs.Held.{Held, found, known_of, made_of, rows_of}
+use Rattle.og_db.specs.Held.{Held, found, known_of, rows_of}
 use Rattle.og_db.specs.Runs.{IsWorldOf}
 use Rattle.og_output.specs.Records.{layout}
 use Rattle.og_output.proofs.LongestLemmas.{one_longest, same_longest}
@@ -26,8 +25,7 @@ unfolding valid_range
 printed_longest before name day is =
     longest (prints_same before name day) (λ d. printed before name d ≡ printed before name day) (λ d. bytes_eq-Decides (printed before name d) (printed before name day)) day is refl
 
-module _ (found_at : (d : ℤ) (db : List (Held Relation)) (name : List ℕ) → found (names_at d db) name ≡ option_map (made_of (λ rel. relation_at row_order row_at rel d)) (found db name))
-    (db : List (Held Relation)) (name : List ℕ) (columns : List Column) (rel : Relation) (known : schemas_of (known_of db) name ≡ Some columns) (held : rows_of db name ≡ Some rel)
+module _ (db : List (Held Relation)) (name : List ℕ) (columns : List Column) (rel : Relation) (known : schemas_of (known_of db) name ≡ Some columns) (held : rows_of db name ≡ Some rel)
     (files : List (Held Relation)) (before : List Effect) (world : IsWorldOf db files before) where
   -- the layout of a day
   abbrev laid : ℤ → List ℕ
@@ -35,7 +33,7 @@ module _ (found_at : (d : ℤ) (db : List (Held Relation)) (name : List ℕ) →
 
   -- a PRINT of the name writes it
   printed_is : (d : ℤ) → IsRefDay d → laid d ≡ printed before name d
-  printed_is d is = layout-found (λ r. relation_at row_order row_at r d) (found db name) columns rel known held ∙ piece-name found_at db files before world name d is
+  printed_is d is = layout-found (λ r. relation_at row_order row_at r d) (found db name) columns rel known held ∙ piece-name db files before world name d is
 
   -- so two days have the same layout where it writes the same
   same : (day : ℤ) → IsRefDay day → (d : ℤ) → IsRefDay d → (laid d ≡ laid day) ↔ (printed before name d ≡ printed before name day)

@@ -1,15 +1,13 @@
 -- What becomes of views where a table changes, and where a name goes.
-use Rattle.std.specs.Prelude.{◌≡◌, ⊤, ℕ, ℤ, Bool, true, false, not, List, [], ◌∷◌, filter, if◌then◌else◌}
-use Rattle.og_base.specs.Calendar.{IsRefDay}
-use Rattle.og_query.specs.Fits.{IsFit}
+use Rattle.std.specs.Prelude.{◌≡◌, ⊤, ℕ, Bool, true, false, not, List, [], ◌∷◌, None, filter, if◌then◌else◌}
 use Rattle.og_query.specs.declared.typed.Typed.{Typed}
 use Rattle.og_query.specs.declared.typed.Typed.TheVariants as t
-use Rattle.og_db.specs.Database.{Relation, names_at}
-use Rattle.og_db.specs.Held.{Held, known_of}
-use Rattle.og_db.specs.Live.{ends_with, kept_at, uses}
-use Rattle.og_db.specs.Runs.{AreWithin, sizes_at}
-use Rattle.og_db.specs.Statements.{IsOfNames, names_after, name_sizes_after}
-use Rattle.og_view.specs.Views.{Seen, IsAnswered}
+use Rattle.og_db.specs.Database.{Relation}
+use Rattle.og_db.specs.Deltas.{IsApplied}
+use Rattle.og_db.specs.declared.delta.Delta.{Delta}
+use Rattle.og_db.specs.Held.{Held}
+use Rattle.og_db.specs.Live.{ends_with, kept_at}
+use Rattle.og_view.specs.Views.{Seen, IsAnswerOver, to_be}
 use Rattle.og_session.specs.Names.{Views}
 
 -- ---- a table that changes
@@ -41,22 +39,6 @@ changed_name (t.Delete name cond) = name
 changed_name (t.Update name sets cond) = name
 changed_name _ = []
 
--- what a view is to be: where its query uses the table, the statement fits its bases
-abbrev pub IsReady : Typed → Seen → Type 0
-IsReady stmt view = uses view.query (changed_name stmt) ≡ true → IsFit (known_of view.bases) stmt
-
--- the bases are on each day what the statement makes of them
-pub record HaveChanged (stmt : Typed) (old new : List (Held Relation)) : Type 0 where
-  pub law : (of : IsOfNames stmt) (d : ℤ) → IsRefDay d → names_at d new ≡ names_after d (names_at d old) (stmt, of)
-  pub known : (other : List ℕ) → known_of new other ≡ known_of old other
-  pub size : (of : IsOfNames stmt) → AreWithin (sizes_at new) (name_sizes_after (sizes_at old) (stmt, of))
-
--- a view after a statement that changes a table: where its query uses the table its bases have changed, and else it is as it was
-pub record IsFollowed (stmt : Typed) (old new : Seen) : Type 0 where
-  pub query : new.query ≡ old.query
-  pub used : uses old.query (changed_name stmt) ≡ true → HaveChanged stmt old.bases new.bases
-  pub unused : uses old.query (changed_name stmt) ≡ false → new ≡ old
-
 -- the same name, and a relation of the two views
 abbrev pub IsPaired : (Seen → Seen → Type 0) → List ℕ × Seen → List ℕ × Seen → Type 0
 IsPaired R old new = (new.0 ≡ old.0) × R old.1 new.1
@@ -68,16 +50,22 @@ ArePaired R (v ∷ vs) (w ∷ ws) = IsPaired R v w × ArePaired R vs ws
 ArePaired R [] (w ∷ ws) = ⊥
 ArePaired R (v ∷ vs) [] = ⊥
 
--- the same query, bases that are what they were, and an answer
-pub record IsKept (old new : Seen) : Type 0 where
+-- the same query and result
+pub record IsSame (old new : Seen) : Type 0 where
   pub query : new.query ≡ old.query
-  pub known : (name : List ℕ) → known_of new.bases name ≡ known_of old.bases name
-  pub answered : IsAnswered new
+  pub result : new.result ≡ old.result
 
--- a view that is answered and has followed
-pub record HasFollowed (stmt : Typed) (old new : Seen) : Type 0 where
-  pub followed : IsFollowed stmt old new
-  pub answered : IsAnswered new
+-- a view that has followed a delta: it is the same, and once the delta is in its table, what the result is to be is the answer
+pub record Follows (db : List (Held Relation)) (name : List ℕ) (delta : Delta) (old new : Seen) : Type 0 where
+  pub same : IsSame old new
+  pub next : (after : List (Held Relation)) → IsApplied name delta db after → IsAnswerOver after old.query (to_be new)
+
+-- a view that follows no more: its result is what it was to be, where all was done, and else what it was
+pub record IsEnded (done : Bool) (old new : Seen) : Type 0 where
+  pub query : new.query ≡ old.query
+  pub next : new.next ≡ None
+  pub put : done ≡ true → (tables : List (Held Relation)) → IsAnswerOver tables old.query (to_be old) → IsAnswerOver tables old.query new.result
+  pub undone : done ≡ false → new.result ≡ old.result
 
 -- ---- a name that goes
 

@@ -1,17 +1,15 @@
 -- What a run holds between statements: all names, the live ones with the results of their views.
-use Rattle.std.specs.Prelude.{◌≡◌, ◌≤◌, ◌++◌, ℕ, ℤ, true, List, [], ◌∷◌, Option, Some, None, map}
+use Rattle.std.specs.Prelude.{◌≡◌, ◌++◌, ℕ, List, [], ◌∷◌, Option, Some, None, map}
 use Rattle.std.specs.List.{All}
 use Rattle.std.specs.Map.{lookup}
 use Rattle.std.specs.Str.{bytes_eq}
-use Rattle.og_base.specs.Calendar.{IsRefDay}
 use Rattle.og_value.specs.declared.kind.What.TheVariants as what
-use Rattle.og_db.specs.Database.{Relation, names_at}
-use Rattle.og_db.specs.Effects.{Effect, size_after, sizes_after}
+use Rattle.og_db.specs.Database.{Relation}
+use Rattle.og_db.specs.Effects.{Effect}
 use Rattle.og_db.specs.Held.{Held, known_of, rows_of, made_of}
-use Rattle.og_db.specs.Live.{Live, uses}
-use Rattle.og_db.specs.Runs.{IsWorldOf, live_of, sizes_at}
-use Rattle.og_db.specs.Statements.{named_rows, named_sizes}
-use Rattle.og_view.specs.Views.{Seen, IsAnswered}
+use Rattle.og_db.specs.Live.{Live}
+use Rattle.og_db.specs.Runs.{IsWorldOf, live_of}
+use Rattle.og_view.specs.Views.{Seen, IsAnswerOver}
 
 -- the views, each under its live name
 abbrev pub Views : Type 0
@@ -39,34 +37,22 @@ pub record Watched : Type 0 where
 abbrev pub watched : List (Held Relation) → Views → Watched
 watched db views = record { names = with_views views db; views = views }
 
--- a view has a live name in the database, which has its columns and no rows there; it is answered, and what its query uses is among its bases what it is in the database
+-- a view has a live name in the database, which has its columns and no rows there; it follows nothing, and its result is the answer of its query over the database
 pub record IsLiveView (db : List (Held Relation)) (v : List ℕ × Seen) : Type 0 where
   pub known : known_of db v.0 ≡ Some (what.Live, v.1.query.first.schema)
   pub rows : rows_of db v.0 ≡ Some []
-  pub answered : IsAnswered v.1
-  pub bases : (name : List ℕ) → uses v.1.query name ≡ true → known_of v.1.bases name ≡ known_of db name
+  pub settled : v.1.next ≡ None
+  pub answer : IsAnswerOver db v.1.query v.1.result
 
 -- each view does
 abbrev pub AreLiveViews : List (Held Relation) → Views → Type 0
 AreLiveViews db views = All (IsLiveView db) views
 
--- a view is up to date: what its query uses has among its bases, on each day, the rows that it has among the names, and no more rows than its size
-pub record IsUpToDate (names : List (Held Relation)) (sizes : List (Held ℕ)) (v : List ℕ × Seen) : Type 0 where
-  pub rows : (name : List ℕ) → uses v.1.query name ≡ true → (d : ℤ) → IsRefDay d → named_rows (names_at d v.1.bases) name ≡ named_rows (names_at d names) name
-  pub most : (name : List ℕ) → uses v.1.query name ≡ true → named_sizes (sizes_at v.1.bases) name ≤ named_sizes sizes name
-
--- what is held after statements: on each day the names and the saved files are the world of that day, the views are those of the live results, and up to date
+-- what is held after statements: on each day the names and the saved files are the world of that day, and the views are those of the live results
 pub record IsRunning (held : Watched) (files : List (Held Relation)) (effects : List Effect) : Type 0 where
   pub world : IsWorldOf held.names files effects
   pub live : live_of effects ≡ lives_of held.views
-  pub views : All (IsUpToDate held.names (sizes_after effects).names) held.views
 
 -- what is held then is what is held after one statement more
 abbrev pub IsDone : Watched → Watched → Effect → Type 0
 IsDone old new effect = (files : List (Held Relation)) (effects : List Effect) → IsRunning old files effects → IsRunning new files (effects ++ effect ∷ [])
-
--- and what is held after an effect that adds a name, where the names are then the world
-abbrev pub IsAdded : Watched → Watched → Type 0
-IsAdded old new = (files : List (Held Relation)) (effects : List Effect) (effect : Effect) (most : Held ℕ) → IsRunning old files effects → IsWorldOf new.names files (effects ++ effect ∷ [])
-    → (size_after (sizes_after effects) effect).names ≡ (sizes_after effects).names ++ most ∷ [] → (size_after (sizes_after effects) effect).live ≡ (sizes_after effects).live
-    → IsRunning new files (effects ++ effect ∷ [])

@@ -1,7 +1,6 @@
 //! The answers of queries that are asked once; og_view asks those of live results.
 ghost use Rattle.std.specs.Prelude.{◌≡◌, ◌≤◌, ℤ, IfOk, length};
 ghost use Rattle.og_base.specs.Calendar.{IsRefDay};
-ghost use Rattle.og_par.specs.Limits.{max_workers};
 ghost use Rattle.og_rel.specs.Relations.{relation_at};
 ghost use Rattle.og_value.specs.Order.{row_order};
 ghost use Rattle.og_value.specs.Values.{row_at};
@@ -15,27 +14,21 @@ ghost use Rattle.og_session.specs.Answers.{AreHeld};
 use og_base::NoMemory;
 use og_db::fitting_rows;
 use og_exec::exec;
-use og_par::Gate;
+use og_par::{Crew, Gate};
 use og_plan::{fitting_queries, plan_of};
 use og_query::Query;
 use og_rel::{Rel, Tables};
 use og_value::{Catalog, Row, order_of_rows};
-use std::alloc::Global;
 use std::thread::Threads;
 
 /// The answer of a query whose names and kinds fit, over any names that have relations: on every day its
 /// rows are those of the ordinary query over the relations on that day. The joins of its plan are shared
 /// out among 1 to `MAX_WORKERS` of og_par. Refused only for want of memory.
 pub fn answer<H: Threads + Sync, T: Catalog + Tables<Row>, G: Gate + Sync>(
-    rt: &H,
-    alloc: Global,
+    crew: &Crew<'_, H, G>,
     query: &Query,
     tables: &T,
-    workers: usize,
-    gate: &G,
 ) -> Result<Rel<Row>, NoMemory>
-    requires least { 1 ≤ workers }
-    requires most { workers ≤ max_workers }
     requires fits { IsFitQuery (schemas_of (T.known tables.now)) query.now }
     requires held { AreHeld (T.known tables.now) (T.named tables.now) }
     ensures law { IfOk result (λ rel. (d : ℤ) → IsRefDay d →
@@ -43,11 +36,12 @@ pub fn answer<H: Threads + Sync, T: Catalog + Tables<Row>, G: Gate + Sync>(
     ensures kinds { IfOk result (λ rel. HaveKinds query.now.first.schema rel) }
     ensures size { IfOk result (λ rel. length rel ≤ query_size (sizes_of (T.named tables.now)) query.now) }
 {
+    let alloc = crew.alloc();
     fitting_queries();
     fitting_rows();
     order_of_rows();
     let plan = plan_of(alloc, query)?;
-    let made = exec(rt, alloc, &plan, tables, workers, gate);
+    let made = exec(crew, &plan, tables);
     drop(plan);
     let rel = made?;
     rel.some_days();

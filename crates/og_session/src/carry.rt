@@ -1,12 +1,10 @@
 //! Carries out a command, up to its fault's line.
-ghost use Rattle.std.specs.Prelude.{◌≡◌, ◌≤◌, ◌+◌, false, [], ◌∷◌, ℕ, List, Some, OnOk, IfErr};
+ghost use Rattle.std.specs.Prelude.{◌≡◌, ◌+◌, false, [], ◌∷◌, ℕ, List, Some, OnOk, IfErr};
 ghost use Rattle.std.specs.List.{All};
 ghost use Rattle.std.specs.Io.KnownBytes.{Appends};
-ghost use Rattle.og_par.specs.Limits.{max_workers};
 ghost use Rattle.og_io.specs.Folders.{Folder};
 ghost use Rattle.og_io.specs.Sources.{TakesAtMost, max_part};
 ghost use Rattle.og_db.specs.Runs.{stored};
-ghost use Rattle.og_words.specs.Grammar.{IsCommand};
 ghost use Rattle.og_faults.specs.Counts.{IsAbsenceCount, IsFaultCount, is_file_fault, is_read_fault, is_write_fault};
 ghost use Rattle.og_script.specs.LiveTexts.{IsLiveStmt};
 ghost use Rattle.og_script.specs.Kept.{IsKeptAt};
@@ -23,7 +21,7 @@ use og_base::Words;
 use og_db::{Db, no_statements};
 use og_faults::Stop;
 use og_io::{Files, Sink, Source};
-use og_par::Gate;
+use og_par::{Crew, Gate};
 use og_progress::Progress;
 use og_script::{script_of, turned, workers_of};
 use og_syntax::Stmt;
@@ -67,25 +65,20 @@ pub fn carry_out<H: Threads + Sync, S: Source, K: Sink, F: Files, G: Gate + Prog
     defined_runs();
     no_statements();
     let command = read_words(alloc, words)?;
-    let workers = workers_of(&command);
+    let crew = Crew::new(rt, alloc, workers_of(&command), gate);
     let stmts = script_of(alloc, command, src, script)?;
-    run_statements(rt, alloc, stmts, workers, out, files, db, gate)
+    run_statements(&crew, stmts, out, files, db)
 }
 
 // Runs the statements in order, up to the first with a fault. Each is gone once it is
 // carried out.
 fn run_statements<H: Threads + Sync, K: Sink, F: Files, G: Gate + Progress + Sync>(
-    rt: &H,
-    alloc: Global,
+    crew: &Crew<'_, H, G>,
     stmts: Items<Stmt>,
-    workers: usize,
     out: &mut K,
     files: &mut F,
     db: &mut Db,
-    gate: &G,
 ) -> Result<(), Stop>
-    requires least { 1 ≤ workers }
-    requires most { workers ≤ max_workers }
     requires live { All IsLiveStmt stmts }
     requires empty { db.old ≡ [] }
     ensures ends { (start : Folder) (contents : Contents) → F.folder files.old ≡ Some start → AreContents start contents →
@@ -98,26 +91,22 @@ fn run_statements<H: Threads + Sync, K: Sink, F: Files, G: Gate + Progress + Syn
     ensures asked { (start : Folder) (contents : Contents) → F.folder files.old ≡ Some start → AreContents start contents →
         RunAsks (run_from contents 1 [] stmts) start db.new (F.folder files.new) (F.calls files.old) (F.calls files.new) result }
 {
+    let alloc = crew.alloc();
     no_statements();
     let mut names = Names::new(alloc);
-    let end = run_all(rt, alloc, stmts, workers, out, files, &mut names, gate);
+    let end = run_all(crew, stmts, out, files, &mut names);
     *db = names.into_stored();
     end
 }
 
 // The same, over the names that they leave.
 fn run_all<H: Threads + Sync, K: Sink, F: Files, G: Gate + Progress + Sync>(
-    rt: &H,
-    alloc: Global,
+    crew: &Crew<'_, H, G>,
     stmts: Items<Stmt>,
-    workers: usize,
     out: &mut K,
     files: &mut F,
     names: &mut Names,
-    gate: &G,
 ) -> Result<(), Stop>
-    requires least { 1 ≤ workers }
-    requires most { workers ≤ max_workers }
     requires live { All IsLiveStmt stmts }
     requires empty { (names.old.names ≡ []) × (names.old.views ≡ []) }
     ensures ends { (start : Folder) (contents : Contents) → F.folder files.old ≡ Some start → AreContents start contents →
@@ -130,22 +119,13 @@ fn run_all<H: Threads + Sync, K: Sink, F: Files, G: Gate + Progress + Sync>(
     ensures asked { (start : Folder) (contents : Contents) → F.folder files.old ≡ Some start → AreContents start contents →
         RunAsks (run_from contents 1 [] stmts) start (stored names.new.names) (F.folder files.new) (F.calls files.old) (F.calls files.new) result }
 {
+    let alloc = crew.alloc();
     no_statements();
     let mut left = turned(alloc, stmts)?;
     let count = left.len();
     'stmts: for place in 0..left.len() {
-        gate.begin(place + 1, count);
-        step(
-            rt,
-            alloc,
-            place + 1,
-            &mut left,
-            workers,
-            out,
-            files,
-            names,
-            gate,
-        )?;
+        crew.gate().begin(place + 1, count);
+        step(crew, place + 1, &mut left, out, files, names)?;
     }
     Ok(())
 }

@@ -1,7 +1,6 @@
 //! Statements on files.
-ghost use Rattle.std.specs.Prelude.{◌≡◌, ◌≤◌, [], ℕ, List, Ok, OnOk, OnErr};
+ghost use Rattle.std.specs.Prelude.{◌≡◌, [], ℕ, List, Ok, OnOk, OnErr};
 ghost use Rattle.std.specs.List.{All};
-ghost use Rattle.og_par.specs.Limits.{max_workers};
 ghost use Rattle.og_io.specs.Folders.{Folder};
 ghost use Rattle.og_value.specs.declared.schema.Column.{Column};
 ghost use Rattle.og_query.specs.Fits.{IsFit, IsFitRow};
@@ -27,7 +26,7 @@ use og_file::{
     write_saved,
 };
 use og_io::{Files, Found};
-use og_par::Gate;
+use og_par::{Crew, Gate};
 use og_progress::Progress;
 use og_query::Typed;
 use og_rel::Tables;
@@ -103,18 +102,13 @@ pub fn open<F: Files, P: Progress>(
 
 /// Inserts the rows of the file into the table, at the statement with that number.
 pub fn import<H: Threads + Sync, F: Files, G: Gate + Progress + Sync>(
-    rt: &H,
-    alloc: Global,
+    crew: &Crew<'_, H, G>,
     number: usize,
     name: &Name,
     file: Text,
-    workers: usize,
     files: &mut F,
     names: &mut Names,
-    gate: &G,
 ) -> Result<(), Stop>
-    requires least { 1 ≤ workers }
-    requires most { workers ≤ max_workers }
     requires fits { IsFit (known_of names.old.names) (t.ImportFile name.now file) }
     ensures ends { (start : Folder) (contents : Contents) → AreContents start contents → (before : List Effect) → IsHeldState start before names.old (F.folder files.old) →
         StepEnds start number before (taken (effect_of contents before (t.ImportFile name.now file))) names.new (F.folder files.new) [] result }
@@ -123,6 +117,7 @@ pub fn import<H: Threads + Sync, F: Files, G: Gate + Progress + Sync>(
     ensures absences { IsAbsenceCount result (F.absences files.old) (F.absences files.new) }
     ensures asked { AsksOnce result (F.calls files.old) (F.calls files.new) }
 {
+    let alloc = crew.alloc();
     one_file_more();
     known_names();
     one_table_file();
@@ -140,24 +135,19 @@ pub fn import<H: Threads + Sync, F: Files, G: Gate + Progress + Sync>(
         unreachable!();
     };
     column_names_are_words(schema);
-    match read_table(alloc, schema, files.bytes(), gate) {
-        Ok(rows) => Ok(insert(rt, alloc, name, rows, workers, names, gate)?),
+    match read_table(alloc, schema, files.bytes(), crew.gate()) {
+        Ok(rows) => Ok(insert(crew, name, rows, names)?),
         Err(refusal) => Err(Stop::of_bytes(number, refusal)),
     }
 }
 
 // Inserts the rows into the table, as an INSERT does.
 fn insert<H: Threads + Sync, G: Gate + Sync>(
-    rt: &H,
-    alloc: Global,
+    crew: &Crew<'_, H, G>,
     name: &Name,
     rows: Vec<Row>,
-    workers: usize,
     names: &mut Names,
-    gate: &G,
 ) -> Result<(), NoMemory>
-    requires least { 1 ≤ workers }
-    requires most { workers ≤ max_workers }
     requires table { (columns : List Column) × IsTableOf columns names.old.names name.now × All (IsFitRow columns) rows.items }
     ensures done { OnOk result (IsDone names.old names.new (imported name.now rows.items)) }
     ensures refused { OnErr result (stored names.new.names ≡ stored names.old.names) }
@@ -166,5 +156,5 @@ fn insert<H: Threads + Sync, G: Gate + Sync>(
         name: name.copy()?,
         rows: Items::from_vec(rows),
     };
-    names.change(rt, alloc, stmt, workers, gate)
+    names.change(crew, stmt)
 }

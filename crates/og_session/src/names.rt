@@ -1,7 +1,6 @@
 //! What a run holds between statements.
 ghost use Rattle.std.specs.Prelude.{◌≡◌, ◌≤◌, ◌++◌, ◌∷◌, [], ℕ, ℤ, List, Some, OnOk, OnErr, length};
 ghost use Rattle.og_base.specs.Calendar.{IsRefDay};
-ghost use Rattle.og_par.specs.Limits.{max_workers};
 ghost use Rattle.og_rel.specs.Relations.{relation_at};
 ghost use Rattle.og_value.specs.Order.{row_order};
 ghost use Rattle.og_value.specs.Values.{row_at};
@@ -21,15 +20,15 @@ ghost use Rattle.og_db.specs.Statements.{IsOfNames, OfNames, named_rows, named_s
 ghost use Rattle.og_view.specs.Views.{IsLiveQuery};
 ghost use Rattle.og_output.specs.Records.{names_text};
 ghost use Rattle.og_session.specs.Following.{IsChange, IsOnlyWritten};
-ghost use Rattle.og_session.specs.Names.{IsAdded, IsDone};
+ghost use Rattle.og_session.specs.Names.{IsDone};
 
-use crate::changes::change_table;
-use crate::follow::follow;
+use crate::changes::delta_of;
+use crate::follow::{end, follow};
 use crate::settle::settle_all;
 use indexmap::IndexMap;
 use og_base::NoMemory;
 use og_db::{Db, Sought};
-use og_par::Gate;
+use og_par::{Crew, Gate};
 use og_query::{Query, Typed};
 use og_rel::{Rel, Tables};
 use og_value::{Catalog, Name, Row, Schema, What};
@@ -121,7 +120,7 @@ impl Names {
         requires new { IsNew (known_of self.old.names) name }
         requires fits { HaveKinds schema rel }
         ensures kept { OnOk result (self.new.names ≡ self.old.names ++ record { name = name; what = what.Kept; columns = schema; rows = rel } ∷ []) }
-        ensures added { OnOk result (IsAdded self.old self.new) }
+        ensures views { OnOk result (self.new.views ≡ self.old.views) }
         ensures done { OnOk result ((query : Query) → schema ≡ query.first.schema →
             ((d : ℤ) → IsRefDay d → relation_at row_order row_at rel d ≡ ordinary_query d (named_rows (names_at d self.old.names)) query) →
             length rel ≤ query_size (named_sizes (sizes_at self.old.names)) query → IsDone self.old self.new (on_names (t.Keep name query, tt))) }
@@ -134,56 +133,46 @@ impl Names {
     /// Adds a live result, as the last name, with the view of its query. Refused only for want of memory.
     pub fn live<H: Threads + Sync, G: Gate + Sync>(
         &mut self,
-        rt: &H,
-        alloc: Global,
+        crew: &Crew<'_, H, G>,
         name: &Name,
         query: &Query,
-        workers: usize,
-        gate: &G,
     ) -> Result<(), NoMemory>
-        requires least { 1 ≤ workers }
-        requires most { workers ≤ max_workers }
         requires fits { IsFit (known_of self.old.names) (t.Live name.now query.now) }
         requires live { IsLiveQuery query.now }
         ensures done { OnOk result (IsDone self.old self.new (on_names (t.Live name.now query.now, tt))) }
         ensures refused { OnErr result (stored self.new.names ≡ stored self.old.names) }
     {
-        self.rows_fit();
         self.db.names_differ();
         let schema = query.first.schema.copy()?;
         let key = name.copy()?;
         let shown = name.copy()?;
-        let view = View::new(rt, alloc, query, &*self, workers, gate)?;
-        view.kept();
+        let view = View::new(crew, query, &self.db)?;
         self.db.live(shown, schema)?;
         self.views.insert(key, view)?;
         Ok(())
     }
 
-    /// Changes the rows of a table: first in the views that use it, then in the table itself, into which the
-    /// rows of an INSERT go without a copy. Refused only for want of memory; then the views may be ahead of
-    /// the tables, which nobody sees, since the run ends.
+    /// Changes the rows of a table. What the statement does is found once, as a delta of the table: first each
+    /// view follows it, and when all have, it is put into the table and all results are put, without taking
+    /// memory. Refused only for want of memory, and then nothing has changed.
     pub fn change<H: Threads + Sync, G: Gate + Sync>(
         &mut self,
-        rt: &H,
-        alloc: Global,
+        crew: &Crew<'_, H, G>,
         stmt: Typed,
-        workers: usize,
-        gate: &G,
     ) -> Result<(), NoMemory>
-        requires least { 1 ≤ workers }
-        requires most { workers ≤ max_workers }
         requires change { IsChange stmt }
         requires fits { IsFit (known_of self.old.names) stmt }
         ensures done { OnOk result ((of : IsOfNames stmt) → IsDone self.old self.new (on_names (stmt, of))) }
-        ensures refused { OnErr result (stored self.new.names ≡ stored self.old.names) }
+        ensures refused { OnErr result (self.new ≡ self.old) }
     {
         self.db.names_differ();
-        if let Err(refusal) = follow(rt, alloc, &stmt, workers, gate, &mut self.views) {
-            drop(stmt);
-            return Err(refusal);
-        }
-        change_table(alloc, stmt, &mut self.db)
+        let (name, delta) = delta_of(crew.alloc(), stmt, &self.db)?;
+        let done = match follow(crew, &self.db, &name, &delta, &mut self.views) {
+            Ok(()) => self.db.apply(&name, delta),
+            Err(refusal) => Err(refusal),
+        };
+        end(done.is_ok(), &mut self.views);
+        done
     }
 
     /// Takes a name out. A live result whose query names it becomes a kept one, with the rows that it has. Takes

@@ -1,9 +1,10 @@
 //! Live results that end with the DROP of a name.
-ghost use Rattle.std.specs.Prelude.{◌≡◌, ◌++◌, ◌<◌, ◌∷◌, [], ℕ, List, Some, length};
+ghost use Rattle.std.specs.Prelude.{◌≡◌, ◌++◌, ◌<◌, ◌∷◌, [], ℕ, List, None, Some, length};
 ghost use Rattle.std.specs.List.{IsDistinct};
 ghost use Rattle.std.specs.Map.{keys_of};
 ghost use Rattle.std.specs.Str.{bytes_eq};
 ghost use Rattle.og_value.specs.declared.kind.What.TheVariants as what;
+ghost use Rattle.og_db.specs.Database.{HaveKinds};
 ghost use Rattle.og_db.specs.Held.{known_of};
 ghost use Rattle.og_view.specs.Views.{Seen};
 ghost use Rattle.og_session.specs.Following.{lasting, settle_one, settle_views, view_ends};
@@ -32,7 +33,7 @@ pub fn settle_all(name: &Name, views: &mut IndexMap<Name, View>, db: &mut Db)
 // The same of the view at that place.
 fn settle_at(at: usize, name: &Name, views: &mut IndexMap<Name, View>, db: &mut Db)
     requires live { (front back : Views) (v : List ℕ × Seen) → views.old.entries ≡ front ++ v ∷ back → length front ≡ at →
-        known_of db.old v.0 ≡ Some (what.Live, v.1.query.first.schema) }
+        (known_of db.old v.0 ≡ Some (what.Live, v.1.query.first.schema)) × (v.1.next ≡ None) × HaveKinds v.1.query.first.schema v.1.result }
     ensures { (front back : Views) (v : List ℕ × Seen) → views.old.entries ≡ front ++ v ∷ back → length front ≡ at →
         (views.new.entries ≡ front ++ (lasting name.now (v ∷ []) ++ back)) × (db.new ≡ settle_one name.now v db.old) }
 {
@@ -42,7 +43,6 @@ fn settle_at(at: usize, name: &Name, views: &mut IndexMap<Name, View>, db: &mut 
     let Some((key, view)) = views.shift_remove_index(at) else {
         return;
     };
-    view.kept();
     db.settle(&key, view.into_rel());
 }
 

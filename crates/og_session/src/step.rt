@@ -1,7 +1,6 @@
 //! One statement of a run.
-ghost use Rattle.std.specs.Prelude.{◌≡◌, ◌≤◌, ◌∷◌, ℕ, List, true, Option, Ok, reverse};
+ghost use Rattle.std.specs.Prelude.{◌≡◌, ◌∷◌, ℕ, List, Option, Ok, reverse};
 ghost use Rattle.std.specs.Io.KnownBytes.{Appends};
-ghost use Rattle.og_par.specs.Limits.{max_workers};
 ghost use Rattle.og_io.specs.Folders.{Folder};
 ghost use Rattle.og_syntax.specs.declared.tree.Stmt.{Stmt};
 ghost use Rattle.og_query.specs.Fits.{IsFit};
@@ -24,11 +23,10 @@ use og_check::{check_owned, checked_fits};
 use og_db::known_names;
 use og_faults::Stop;
 use og_io::{Files, Sink};
-use og_par::Gate;
+use og_par::{Crew, Gate};
 use og_progress::Progress;
 use og_query::Typed;
 use og_syntax::Stmt;
-use std::alloc::Global;
 use std::thread::Threads;
 
 /// Takes the last of the statements that are left, in turned order, which has that number, counted from 1;
@@ -36,18 +34,13 @@ use std::thread::Threads;
 /// results and the files are as they were, but for a file that was to be written where the files failed, and a front of
 /// what it prints was written.
 pub fn step<H: Threads + Sync, K: Sink, F: Files, G: Gate + Progress + Sync>(
-    rt: &H,
-    alloc: Global,
+    crew: &Crew<'_, H, G>,
     number: usize,
     left: &mut Vec<Stmt>,
-    workers: usize,
     out: &mut K,
     files: &mut F,
     names: &mut Names,
-    gate: &G,
 ) -> Result<(), Stop>
-    requires least { 1 ≤ workers }
-    requires most { workers ≤ max_workers }
     requires next { (stmt : Stmt) × (rest : List Stmt) × (reverse left.old.items ≡ stmt ∷ rest) × IsLiveStmt stmt }
     ensures ends { (stmt : Stmt) (rest : List Stmt) → reverse left.old.items ≡ stmt ∷ rest → (start : Folder) (contents : Contents) → AreContents start contents →
         (before : List Effect) → IsHeldState start before names.old (F.folder files.old) →
@@ -64,23 +57,18 @@ pub fn step<H: Threads + Sync, K: Sink, F: Files, G: Gate + Progress + Sync>(
     let Some(stmt) = left.pop() else {
         unreachable!();
     };
-    carried(rt, alloc, number, stmt, workers, out, files, names, gate)
+    carried(crew, number, stmt, out, files, names)
 }
 
 // The same of a statement that was taken.
 fn carried<H: Threads + Sync, K: Sink, F: Files, G: Gate + Progress + Sync>(
-    rt: &H,
-    alloc: Global,
+    crew: &Crew<'_, H, G>,
     number: usize,
     stmt: Stmt,
-    workers: usize,
     out: &mut K,
     files: &mut F,
     names: &mut Names,
-    gate: &G,
 ) -> Result<(), Stop>
-    requires least { 1 ≤ workers }
-    requires most { workers ≤ max_workers }
     requires live { IsLiveStmt stmt }
     ensures ends { (start : Folder) (contents : Contents) → AreContents start contents → (before : List Effect) → IsHeldState start before names.old (F.folder files.old) →
         (text : List ℕ) × Appends (K.written out.old) (K.written out.new) text × StepEnds start number before (outcome contents before stmt) names.new (F.folder files.new) text result }
@@ -92,28 +80,24 @@ fn carried<H: Threads + Sync, K: Sink, F: Files, G: Gate + Progress + Sync>(
     ensures asked { (start : Folder) (contents : Contents) → AreContents start contents → (before : List Effect) → IsHeldState start before names.old (F.folder files.old) →
         StepAsks (outcome contents before stmt) result (F.calls files.old) (F.calls files.new) }
 {
+    let alloc = crew.alloc();
     known_names();
     checked_fits();
     match check_owned(alloc, stmt, &*names) {
-        Ok(typed) => done(rt, alloc, number, typed, workers, out, files, names, gate),
+        Ok(typed) => done(crew, number, typed, out, files, names),
         Err(refusal) => Err(Stop::of_check(number, refusal)),
     }
 }
 
 // Carries out a statement that passed its checks, and writes what it prints.
 fn done<H: Threads + Sync, K: Sink, F: Files, G: Gate + Progress + Sync>(
-    rt: &H,
-    alloc: Global,
+    crew: &Crew<'_, H, G>,
     number: usize,
     typed: Typed,
-    workers: usize,
     out: &mut K,
     files: &mut F,
     names: &mut Names,
-    gate: &G,
 ) -> Result<(), Stop>
-    requires least { 1 ≤ workers }
-    requires most { workers ≤ max_workers }
     requires live { IsLiveTyped typed }
     requires fits { IsFit (known_of names.old.names) typed }
     ensures ends { (start : Folder) (contents : Contents) → AreContents start contents → (before : List Effect) → IsHeldState start before names.old (F.folder files.old) →
@@ -125,28 +109,30 @@ fn done<H: Threads + Sync, K: Sink, F: Files, G: Gate + Progress + Sync>(
     ensures absences { IsAbsenceCount result (F.absences files.old) (F.absences files.new) }
     ensures asked { (contents : Contents) (before : List Effect) → StepAsks (taken (effect_of contents before typed)) result (F.calls files.old) (F.calls files.new) }
 {
+    let alloc = crew.alloc();
     match typed {
-        Typed::Save { name, file } => save(alloc, &name, &file, files, names, gate),
-        Typed::OpenFile { name, file } => open(alloc, number, name, file, files, names, gate),
-        Typed::ImportFile { name, file } => import(
-            rt, alloc, number, &name, file, workers, files, names, gate,
+        Typed::Save { name, file } => save(alloc, &name, &file, files, names, crew.gate()),
+        Typed::OpenFile { name, file } => open(
+            alloc,
+            number,
+            name,
+            file,
+            files,
+            names,
+            crew.gate(),
         ),
-        other => on_names(rt, alloc, other, workers, out, names, gate),
+        Typed::ImportFile { name, file } => import(crew, number, &name, file, files, names),
+        other => on_names(crew, other, out, names),
     }
 }
 
 // Writes what a statement prints that acts on names alone, and carries it out.
 fn on_names<H: Threads + Sync, K: Sink, G: Gate + Sync>(
-    rt: &H,
-    alloc: Global,
+    crew: &Crew<'_, H, G>,
     typed: Typed,
-    workers: usize,
     out: &mut K,
     names: &mut Names,
-    gate: &G,
 ) -> Result<(), Stop>
-    requires least { 1 ≤ workers }
-    requires most { workers ≤ max_workers }
     requires live { IsLiveTyped typed }
     requires fits { IsFit (known_of names.old.names) typed }
     ensures ends { (of : IsOfNames typed) (start : Folder) (n : ℕ) (before : List Effect) (folder : Option Folder) → IsHeldState start before names.old folder →
@@ -155,10 +141,10 @@ fn on_names<H: Threads + Sync, K: Sink, G: Gate + Sync>(
     ensures writes { IsFaultCount (is_write_fault result) (K.faults out.old) (K.faults out.new) }
     ensures grown { HasGrown (K.written out.old) (K.written out.new) }
 {
-    if let Err(refusal) = put_piece(rt, alloc, &typed, workers, gate, names, out) {
+    if let Err(refusal) = put_piece(crew, &typed, names, out) {
         drop(typed);
         return Err(Stop::from(refusal));
     }
-    execute(rt, alloc, typed, workers, gate, names)?;
+    execute(crew, typed, names)?;
     Ok(())
 }

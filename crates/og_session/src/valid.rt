@@ -14,7 +14,6 @@ ghost use Rattle.og_session.specs.Output.{piece_of, valid_range};
 
 use crate::names::Names;
 use og_base::{DayRange, NoMemory, RefDay};
-use og_db::found_names;
 use og_io::{PutRefusal, Sink};
 use og_output::{layout_range, put, range_text};
 use og_rel::Tables;
@@ -44,7 +43,6 @@ fn range_of(alloc: Global, name: &Name, day: RefDay, names: &Names) -> Result<Da
     requires { IsNamed (known_of names.now.names) name.now }
     ensures { IfOk result (λ range. (files : List (Held Relation)) (before : List Effect) → IsWorldOf names.now.names files before → range ≡ valid_range before name.now day) }
 {
-    found_names();
     names.rows_fit();
     // For its clause: the day is a reference day.
     day.number();

@@ -8,7 +8,7 @@ ghost use Rattle.og_query.specs.Steady.{is_steady};
 use og_base::{NoMemory, RefDay};
 use og_db::Db;
 use og_exec::exec;
-use og_par::OpenGate;
+use og_par::{Crew, OpenGate};
 use og_plan::{fitting_queries, plan_of};
 use og_query::{Query, ordinary};
 use og_rel::{Rel, Tables};
@@ -47,7 +47,8 @@ fn answer<H: Threads + Sync + AllocGlobal>(
     fitting_queries();
     db.rows_fit();
     let plan = plan_of(rt.alloc(), query)?;
-    let rel = exec(rt, rt.alloc(), &plan, db, workers, &OpenGate);
+    let crew = Crew::new(rt, rt.alloc(), workers, &OpenGate);
+    let rel = exec(&crew, &plan, db);
     drop(plan);
     rel
 }

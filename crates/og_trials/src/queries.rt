@@ -1,17 +1,20 @@
 //! The queries that a case prints, asked anew.
-ghost use Rattle.std.specs.Prelude.{◌≡◌, IfOk};
+ghost use Rattle.std.specs.Prelude.{◌≡◌, List, IfOk};
+ghost use Rattle.std.specs.List.{All};
+ghost use Rattle.og_value.specs.declared.schema.Column.{Column};
+ghost use Rattle.og_db.specs.Database.{IsTableOf};
 ghost use Rattle.og_db.specs.Held.{known_of};
-ghost use Rattle.og_query.specs.Fits.{IsFit, IsFitQuery, schemas_of};
+ghost use Rattle.og_query.specs.Fits.{IsFit, IsFitQuery, IsFitRow, schemas_of};
 
 use crate::answers::{engine_lines, plain_lines};
 use crate::report::Report;
 use og_base::{NoMemory, OngoingRow, RefDay};
 use og_case_files::{Case, Refusal};
 use og_check::{CheckRefusal, check, checked_fits};
-use og_db::Db;
+use og_db::{Db, delta_of_insert};
 use og_query::{Query, Typed};
 use og_syntax::Stmt;
-use og_value::Row;
+use og_value::{Name, Row};
 use std::alloc::Global;
 use std::thread::Threads;
 
@@ -71,7 +74,7 @@ fn take<H: Threads + Sync + AllocGlobal>(
 {
     match typed {
         Typed::Create { name, schema } => db.create(name.copy()?, schema.copy()?)?,
-        Typed::Insert { name, rows } => db.insert(name, copies_of(rt.alloc(), rows.as_slice())?)?,
+        Typed::Insert { name, rows } => insert(rt.alloc(), name, rows.as_slice(), db)?,
         Typed::PrintQuery { query, day } => ask(rt, case, number, query, *day, db, report)?,
         Typed::PrintName { .. }
         | Typed::Tables
@@ -81,6 +84,15 @@ fn take<H: Threads + Sync + AllocGlobal>(
         _ => return Ok(false),
     }
     Ok(true)
+}
+
+// Inserts copies of the rows into the table.
+fn insert(alloc: Global, name: &Name, rows: &[Row], db: &mut Db) -> Result<(), NoMemory>
+    requires { (columns : List Column) × IsTableOf columns db.old name.now × All (IsFitRow columns) rows.now }
+{
+    let rows = copies_of(alloc, rows)?;
+    let delta = delta_of_insert(alloc, db, name, rows)?;
+    db.apply(name, delta)
 }
 
 // Copies of the rows.

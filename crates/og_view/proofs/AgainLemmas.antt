@@ -1,6 +1,7 @@
 -- A core over parts of its tables: its rows that pass tests of its items are those that it has over the tables.
 use Rattle.std.proofs.Common.{◌≡◌, ◌&&◌, ℕ, ℤ, zero, suc, Bool, true, List, [], ◌∷◌, Some, length, filter, map, slice_get, slice_index_or, refl, sym, ap, ◌∙◌, arith}
 use Rattle.std.specs.List.{All, list_any}
+use Rattle.std.proofs.lemmas.Bool.{and_parts}
 use Rattle.og_base.proofs.SetLemmas.{filter-set_of}
 use Rattle.og_base.proofs.SetMembers.{list_any-filter}
 use Rattle.og_rel.proofs.AlgebraLemmas.{same_set_by_tests}
@@ -17,17 +18,17 @@ use Rattle.og_query.proofs.Equations.{meaning-Column}
 use Rattle.og_query.proofs.QueryLemmas.{rows_ordered}
 use Rattle.og_exec.specs.Tables.{Relation, Relations, rows_at}
 use Rattle.og_view.specs.Again.{passing_rows}
-use Rattle.og_view.specs.Bases.{AreHeld}
+use Rattle.og_view.specs.Tables.{AreHeld}
 use Rattle.og_view.specs.Parts.{AreParts, own, own_at, part_rels}
 use Rattle.og_view.specs.Placed.{placed_query}
 use Rattle.og_view.specs.Rows.{rows_over}
-use Rattle.og_view.specs.Sieves.{Test, passes, sifted}
+use Rattle.og_reduce.specs.Sieves.{Test, passes, sifted}
 use Rattle.og_view.specs.declared.part.Part.{Part}
 use Rattle.og_view.proofs.GrownLemmas.{any_over}
-use Rattle.og_view.proofs.NarrowedLemmas.{HaveWidths, first_of, second_of}
+use Rattle.og_view.proofs.NarrowedLemmas.{HaveWidths}
 use Rattle.og_view.proofs.PartLemmas.{AreThere, part_rows, rows_of_parts, same_any, whole_rows, widths}
 use Rattle.og_view.proofs.PlacedLemmas.{named_at}
-use Rattle.og_view.proofs.SieveLemmas.{sifted-none}
+use Rattle.og_reduce.proofs.SieveLemmas.{sifted-none}
 
 -- the image has at the place of an item that is a column what the row has in that
 pub handed_through : (d : ℤ) (row : Fixed) (items : List Expr) (item place : ℕ) → slice_get items item ≡ Some (expr.Column place)
@@ -56,7 +57,7 @@ module _ (d : ℤ) (core : Core) (tests inner : List Test) (told : (row : Fixed)
       ∙ same_set_by_tests rows_ordered _ _
       (λ t. any_passing t (part_rows d (own_at named core.tables) parts core.tables)
       ∙ same_any d inner (λ row. truth d row core.cond && (passes tests (image d core.items row) && t (image d core.items row)))
-      (λ row is. told row (first_of (truth d row core.cond) _ is) (first_of (passes tests (image d core.items row)) _ (second_of (truth d row core.cond) _ is)))
+      (λ row is. let both = and_parts (truth d row core.cond) _ is in told row both.0 (and_parts (passes tests (image d core.items row)) _ both.1).0)
       (own_at named core.tables) [] [] tt core.tables wide parts are
       ∙ sym (any_passing t (whole_rows d (own_at named core.tables) core.tables)))
       ∙ sym (filter-set_of rows_ordered (passes tests) _)

@@ -1,8 +1,11 @@
 -- Queries over tables whose rows fit: that the rows of their answers fit too.
-use Rattle.std.proofs.Common.{◌≡◌, ◌++◌, ℤ, not, List, [], ◌∷◌, Some, map, filter, fold, refl, sym, ap, ap₂, ◌∙◌, subst}
+use Rattle.std.proofs.Common.{◌≡◌, ◌++◌, ◌≤◌, ℤ, not, List, [], ◌∷◌, Some, length, map, filter, fold, refl, sym, ap, ap₂, ◌∙◌, subst}
 use Rattle.std.specs.List.{All, AllByRecursion, flat_map}
+use Rattle.std.specs.List.Sorted.{IsPermutation}
 use Rattle.std.proofs.lemmas.List.{map-append}
 use Rattle.std.proofs.lemmas.List.Elements.{All-append, All-cons, All-filter, All-map, All-nil, All-weaker, recursion_from_All}
+use Rattle.std.proofs.lemmas.List.Sorted.{All-permutation, IsPermutation-sym, length_permutation}
+use Rattle.og_base.specs.Calendar.{IsRefDay}
 use Rattle.og_base.proofs.SetLemmas.{All-set_of}
 use Rattle.og_value.specs.Order.{row_order}
 use Rattle.og_value.specs.Values.{row_at}
@@ -11,9 +14,10 @@ use Rattle.og_value.specs.declared.schema.Column.{Column}
 use Rattle.og_value.specs.declared.term.SetOp.{SetOp}
 use Rattle.og_value.specs.declared.term.SetOp.TheVariants as op
 use Rattle.og_rel.specs.Algebra.{is_in}
-use Rattle.og_rel.specs.Relations.{relation_at}
+use Rattle.og_rel.specs.Relations.{HasDays, relation_at}
+use Rattle.og_rel.proofs.PermutationLemmas.{relation_at-permutation}
 use Rattle.og_query.specs.Combinations.{combinations}
-use Rattle.og_query.specs.Fits.{Schemas, core_kinds, IsAsNamed, IsFitCore, IsFitRest, IsFitQuery}
+use Rattle.og_query.specs.Fits.{Schemas, core_kinds, schemas_of, tables_of, IsAsNamed, IsFitCore, IsFitRest, IsFitRow, IsFitQuery}
 use Rattle.og_query.specs.Kinds.{fixed_kind, kind_in, kinds_of}
 use Rattle.og_query.specs.Queries.{Fixed, Named, image, is_kept, core_rows, combined, ordinary_query}
 use Rattle.og_query.specs.declared.expression.Expr.{Expr}
@@ -21,12 +25,18 @@ use Rattle.og_query.specs.declared.query.Core.{Core}
 use Rattle.og_query.specs.declared.query.From1.{From1}
 use Rattle.og_query.specs.declared.query.Query.{Query}
 use Rattle.og_query.specs.declared.query.Rest.{Rest}
+use Rattle.og_query.specs.Sizes.{query_size}
 use Rattle.og_query.proofs.KindLemmas.{value_has_its_kind}
+use Rattle.og_query.proofs.QueryLemmas.{rows_ordered}
 use Rattle.og_plan.specs.Premises.{FitRows, HaveFitRows, AllHaveFitRows}
-use Rattle.og_exec.specs.Tables.{Relations, rows_at, rows_or_none}
+use Rattle.og_exec.specs.Tables.{Relations, rows_at, rows_on, rows_or_none, sizes_of}
 use Rattle.og_db.specs.Database.{Relation, HaveKinds}
 use Rattle.og_db.specs.Fits.{IsFitFixed}
-use Rattle.og_view.specs.Bases.{AreHeld}
+use Rattle.og_db.specs.Held.{Held, known_of, rows_of}
+use Rattle.og_db.proofs.FitLemmas.{fit_from_days, fit_on_day}
+use Rattle.og_view.specs.Tables.{AreHeld}
+use Rattle.og_view.specs.Views.{IsAnswerOver, IsLiveQuery}
+use Rattle.og_view.proofs.BaseLemmas.{tables_held}
 
 module _ (schemas : Schemas) (named : Relations) (held : AreHeld schemas named)
     (on_a_day : (columns : List Column) (rel : Relation) → HaveKinds columns rel → (d : ℤ) → All (IsFitFixed columns) (relation_at row_order row_at rel d)) (d : ℤ) where
@@ -110,3 +120,27 @@ module _ (d : ℤ) (rows : Named) (schemas : Schemas) where
   answer_fits query fit tables =
       rests_fit query.first query.rest (core_rows d rows query.first) (recursion_from_All (IsFitRest schemas query.first) query.rest fit.rest)
       (recursion_from_All (λ rest. HaveFitRows rows rest.core) query.rest tables.1) (core_fits query.first fit.first tables.0)
+
+-- rows that have days, and are on each day those of the query of a live result, are its answer where there are no more than its size
+pub answer_of : (tables : List (Held Relation)) (query : Query) (rel : Relation) → IsLiveQuery query → IsFitQuery (tables_of (known_of tables)) query → AreHeld (schemas_of (known_of tables)) (rows_of tables)
+    → ((d : ℤ) → IsRefDay d → ordinary_query d (rows_at (rows_of tables) d) query ≡ rows_on rel d) → length rel ≤ query_size (sizes_of (rows_of tables)) query → All (λ p. HasDays p.1) rel → IsAnswerOver tables query rel
+answer_of tables query rel live fits held law size days = record {
+  live = live;
+  fits = fits;
+  law = λ d day. sym (law d day);
+  size = size;
+  kinds = fit_from_days query.first.schema rel days (λ d day.
+      subst (All (IsFitFixed query.first.schema)) (law d day)
+      (answer_fits d (rows_at (rows_of tables) d) (tables_of (known_of tables)) query fits
+      (tables_fit (tables_of (known_of tables)) (rows_of tables) (tables_held (known_of tables) (rows_of tables) held) fit_on_day d query fits)));
+}
+
+-- and so they are in another order
+pub answer_moved : (tables : List (Held Relation)) (query : Query) (rel moved : Relation) → IsPermutation moved rel → IsAnswerOver tables query rel → IsAnswerOver tables query moved
+answer_moved tables query rel moved is answer = record {
+  live = answer.live;
+  fits = answer.fits;
+  law = λ d day. relation_at-permutation rows_ordered row_at moved rel d is ∙ answer.law d day;
+  size = subst (λ n. n ≤ query_size (sizes_of (rows_of tables)) query) (length_permutation moved rel is) answer.size;
+  kinds = All-permutation (λ p. IsFitRow query.first.schema p.0) rel moved (IsPermutation-sym moved rel is) answer.kinds;
+}

@@ -14,7 +14,8 @@ use Rattle.og_query.specs.declared.query.From1.{From1}
 use Rattle.og_query.proofs.ProductLemmas.{list_any-combinations}
 use Rattle.og_query.proofs.QueryLemmas.{rows_ordered}
 use Rattle.og_plan.proofs.MeaningParts.{and_true}
-use Rattle.og_view.specs.Rows.{IsAlike, rows_over, turns}
+use Rattle.og_db.specs.Deltas.{IsAlike}
+use Rattle.og_view.specs.Rows.{rows_over, turns}
 
 module _ (now before new : From1 → List Fixed) (grows : (table : From1) → IsAlike (now table) (before table ++ new table)) where
   -- what comes of the old rows of a table, or of its new ones, with the rows of the others as they were, or with a turn among them

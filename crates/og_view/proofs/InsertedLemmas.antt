@@ -18,9 +18,10 @@ use Rattle.og_query.specs.declared.query.Rest.{Rest}
 use Rattle.og_query.proofs.QueryLemmas.{answer_rises, rows_ordered}
 use Rattle.og_exec.specs.Tables.{rows_at, rows_on}
 use Rattle.og_db.specs.Database.{Relation}
+use Rattle.og_db.specs.Deltas.{IsAlike}
 use Rattle.og_db.specs.Held.{Held, rows_of}
 use Rattle.og_view.specs.Placed.{AreGrown, cores_of, gets, more_rows}
-use Rattle.og_view.specs.Rows.{IsAlike, rows_over, turns}
+use Rattle.og_view.specs.Rows.{rows_over, turns}
 use Rattle.og_view.specs.Views.{IsLiveQuery, IsLiveRest}
 use Rattle.og_view.proofs.GrownLemmas.{core_rows-grown}
 use Rattle.og_view.proofs.LiveLemmas.{ordinary_query-live}

@@ -21,7 +21,7 @@ use Rattle.og_query.specs.declared.query.From1.{From1}
 use Rattle.og_query.proofs.QueryLemmas.{rows_ordered}
 use Rattle.og_exec.specs.Tables.{Relations, rows_at, rows_on, rows_or_none}
 use Rattle.og_db.specs.Database.{Relation, HaveKinds}
-use Rattle.og_view.specs.Bases.{AreHeld}
+use Rattle.og_view.specs.Tables.{AreHeld}
 use Rattle.og_view.specs.Parts.{beside_at}
 use Rattle.og_view.specs.Placed.{beside, gets, more_lists}
 use Rattle.og_view.specs.Rows.{rows_over, turns}
@@ -48,6 +48,11 @@ module _ (rows new : From1 → List Fixed) where
   turn_at (suc place) (table ∷ tables) within =
       get_or-map (λ one. rows table ∷ one) (turns (map rows tables) (map new tables)) place [] [] (omega (arith, within, length-turns tables))
       ∙ ap (λ one. rows table ∷ one) (turn_at place tables (omega (arith, within)))
+
+-- a relation without rows
+pub no_rows : (rel : Relation) → length rel ≤ 0 → rel ≡ []
+no_rows [] h = refl
+no_rows (p ∷ rel) h = absurd (omega (arith, h))
 
 -- nothing is added by no rows
 pub nothing_added : (rel : Relation) (d : ℤ) (rows : List Fixed) → rows ≡ [] → rows_on rel d ≡ set_of row_order (rows_on rel d ++ rows)

@@ -2,6 +2,7 @@
 use Rattle.std.proofs.Common.{◌≡◌, ◌≤◌, ◌++◌, ◌+◌, ◌-◌, ◌<◌, ◌&&◌, ℕ, zero, suc, Bool, true, false, List, [], ◌∷◌, length, filter, if◌then◌else◌, slice_index_or, take, refl, sym, ap, ◌∙◌, arith}
 use Rattle.std.specs.Bool.{⊤}
 use Rattle.std.specs.List.{All, list_any}
+use Rattle.std.proofs.lemmas.Bool.{and_parts}
 use Rattle.std.proofs.lemmas.List.Elements.{All-head, All-tail, All-weaker}
 use Rattle.og_base.proofs.SetMembers.{list_any-filter}
 use Rattle.og_value.specs.declared.value.FixedValue.{FixedValue}
@@ -12,8 +13,8 @@ use Rattle.og_query.specs.Queries.{Fixed}
 use Rattle.og_query.proofs.ProductLemmas.{list_any-combinations}
 use Rattle.og_plan.proofs.MeaningHomes.{columns}
 use Rattle.og_plan.proofs.MeaningPlaces.{at_first, at_second}
-use Rattle.og_view.specs.Sieves.{Keys, is_among, meets, tests_from}
-use Rattle.og_view.specs.Sieves as sieves
+use Rattle.og_reduce.specs.Sieves.{Keys, is_among, meets, tests_from}
+use Rattle.og_reduce.specs.Sieves as sieves
 
 -- each row of a list has so many columns, list by list
 abbrev pub HaveWidths : List ℕ → List (List Fixed) → Type 0
@@ -35,12 +36,6 @@ behind row rest width n is =
     sym (at_second row rest (width + n) no_value (omega (arith, is)))
     ∙ ap (λ k. slice_index_or rest (width + n - k) no_value) is
     ∙ ap (λ k. slice_index_or rest k no_value) (less_more width n)
-
--- three truths in another order
-pub and_swap : (a b c : Bool) → (a && (b && c)) ≡ (b && (a && c))
-and_swap true b c = refl
-and_swap false true c = refl
-and_swap false false c = refl
 
 module _ (test : FixedValue → Bool) (place : ℕ) (back : List (List Fixed)) (rows : List Fixed) (within : All (λ row. place < length row) rows) where
   -- the value in the place passes
@@ -82,15 +77,6 @@ filter_every p [] all = refl
 filter_every p (x ∷ xs) all =
     ap (λ b. if b then x ∷ filter p xs else filter p xs) (All-head (λ y. p y ≡ true) x xs all) ∙ ap (λ ys. x ∷ ys) (filter_every p xs (All-tail (λ y. p y ≡ true) x xs all))
 
--- both of two truths
-pub first_of : (a b : Bool) → (a && b) ≡ true → a ≡ true
-first_of true b e = refl
-first_of false b e = cc e
-
-pub second_of : (a b : Bool) → (a && b) ≡ true → b ≡ true
-second_of true b e = e
-second_of false b e = cc e
-
 -- three truths, of which two come together
 two_and : (p a u : Bool) → (p && (a && u)) ≡ ((a && p) && u)
 two_and true true u = refl
@@ -107,13 +93,13 @@ module _ (widths : List ℕ) (front : List (List Fixed)) (wide : HaveWidths widt
       ap (λ rows. list_any t (combinations (front ++ rows ∷ back)))
       (sym (filter_every (λ row. meets row (place, one)) rows
       (All-weaker (λ row. sieves.passes (tests_from place (one ∷ keys)) row ≡ true) (λ row. meets row (place, one) ≡ true)
-      (λ row e. first_of (meets row (place, one)) (sieves.passes (tests_from (suc place) keys) row) e) rows all)))
+      (λ row e. (and_parts (meets row (place, one)) (sieves.passes (tests_from (suc place) keys) row) e).0) rows all)))
       ∙ any_narrowed (is_among one) place back rows
       (All-weaker (λ row. place + suc (length keys) ≤ length row) (λ row. place < length row) (λ row l. omega (arith, l)) rows long) t widths front wide
       ∙ any_passing keys (suc place)
       (All-weaker (λ row. place + suc (length keys) ≤ length row) (λ row. suc place + length keys ≤ length row) (λ row l. omega (arith, l)) rows long)
       (All-weaker (λ row. sieves.passes (tests_from place (one ∷ keys)) row ≡ true) (λ row. sieves.passes (tests_from (suc place) keys) row ≡ true)
-      (λ row e. second_of (meets row (place, one)) (sieves.passes (tests_from (suc place) keys) row) e) rows all)
+      (λ row e. (and_parts (meets row (place, one)) (sieves.passes (tests_from (suc place) keys) row) e).1) rows all)
       (λ row. meets row (columns widths + place, one) && t row)
       ∙ (λ i. list_any (λ row. sieves.passes (tests_from (one_more (columns widths) place i) keys) row && (meets row (columns widths + place, one) && t row)) (combinations (front ++ rows ∷ back)))
       ∙ (λ i. list_any (λ row. two_and (sieves.passes (tests_from (suc (columns widths + place)) keys) row) (meets row (columns widths + place, one)) (t row) i) (combinations (front ++ rows ∷ back)))

@@ -2,6 +2,7 @@
 use Rattle.std.proofs.Common.{◌≡◌, ◌≤◌, ◌++◌, ◌+◌, ◌<◌, ◌&&◌, ℕ, ℤ, zero, suc, Bool, true, false, List, [], ◌∷◌, Option, Some, None, length, filter, map, get_or, slice_get, slice_index_or, take, refl, sym, ap, ap₂, ◌∙◌, subst, arith}
 use Rattle.std.specs.List.{All, AllByRecursion, list_any}
 use Rattle.std.specs.Option.{option_map}
+use Rattle.std.proofs.lemmas.Bool.{and_parts}
 use Rattle.std.proofs.lemmas.List.{append_assoc, append-nil, get_or-map, length-map, length-take-le, map-append, take-map, take_more}
 use Rattle.std.proofs.lemmas.List.Elements.{All-filter, All-nil, All-weaker, filter_passes, recursion_from_All}
 use Rattle.std.proofs.lemmas.List.Sums.{sum_by-cons}
@@ -24,16 +25,18 @@ use Rattle.og_exec.specs.Tables.{Relation, rows_at, rows_on, rows_or_none}
 use Rattle.og_db.specs.Database.{HaveKinds}
 use Rattle.og_db.specs.Fits.{IsFitFixed}
 use Rattle.og_query.specs.Fits.{IsFitRow}
-use Rattle.og_view.specs.Bases.{AreHeld}
+use Rattle.og_view.specs.Tables.{AreHeld}
 use Rattle.og_view.specs.Parts.{AreParts, IsHanded, IsPart, part_at, part_rels, rel_of, width_of}
 use Rattle.og_view.specs.Placed.{columns_at, letters, place_schemas, placed_core, placed_query}
 use Rattle.og_view.specs.Rows.{rows_over}
-use Rattle.og_view.specs.Sieves.{Keys, Test, is_among, meets, passes, row_passes, sifted, tests_from}
+use Rattle.og_reduce.specs.Sieves.{Keys, Test, is_among, meets, passes, row_passes, sifted, tests_from}
 use Rattle.og_view.specs.declared.part.Part.{Part}
 use Rattle.og_view.proofs.GrownLemmas.{any_over, core_rows-over}
-use Rattle.og_view.proofs.NarrowedLemmas.{HaveWidths, any_narrowed, any_passing, filter_every, first_of, parted_at, second_of}
-use Rattle.og_view.proofs.PlacedLemmas.{and_nothing, by_place, length-letters, nothing_and, placed-by_place}
-use Rattle.og_view.proofs.SieveLemmas.{passes-one, rows_on-sifted}
+use Rattle.og_view.proofs.NarrowedLemmas.{HaveWidths, any_narrowed, any_passing, filter_every, parted_at}
+use Rattle.og_view.proofs.PlacedLemmas.{by_place, length-letters, placed-by_place}
+use Rattle.og_reduce.proofs.PlaceLemmas.{and_nothing, nothing_and}
+use Rattle.og_reduce.proofs.SieveLemmas.{passes-one}
+use Rattle.og_view.proofs.SieveLemmas.{rows_on-sifted}
 
 -- lists with one more
 HaveWidths-push : (widths : List ℕ) (front : List (List Fixed)) (width : ℕ) (rows : List Fixed) → HaveWidths widths front → All (λ row. length row ≡ width) rows
@@ -202,7 +205,7 @@ module _ (d : ℤ) where
           ∙ inserted (part_rows rels parts core.tables) (part_widths tests rels [] core.tables parts are wide)
           (part_all (λ row. passes (tests_from 0 keys) row ≡ true) rels parts core.tables place each) (λ row. truth d row core.cond && t (image d core.items row))
           ∙ same_any tests (λ row. passes own_tests row && (truth d row core.cond && t (image d core.items row)))
-          (λ row is. let rest = second_of (passes own_tests row) _ is in told row (first_of (truth d row core.cond) _ rest) (first_of (passes own_tests row) _ is))
+          (λ row is. let both = and_parts (passes own_tests row) _ is in told row (and_parts (truth d row core.cond) _ both.1).0 both.0)
           rels [] [] tt core.tables wide parts are
           ∙ sym (inserted (whole_rows rels core.tables) wide (whole_all (λ row. passes (tests_from 0 keys) row ≡ true) rels core.tables place each) (λ row. truth d row core.cond && t (image d core.items row)))
           ∙ sym (any_over d core t (combinations (whole_rows rels core.tables))))

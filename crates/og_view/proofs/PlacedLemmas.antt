@@ -1,28 +1,19 @@
--- Cores over names by place: what their places have, and what they have more when a name gets new rows.
-use Rattle.std.proofs.Common.{◌≡◌, ◌≤◌, ◌<◌, ◌++◌, ◌+◌, ℕ, ℤ, zero, suc, ◌==◌, Bool, true, false, List, [], ◌∷◌, Option, Some, None, length, map, get_or, slice_get, if◌then◌else◌, refl, sym, ap, ap₂, ◌∙◌, subst, arith}
-use Rattle.std.specs.Cmp.Lexicographic.{same_text}
-use Rattle.std.specs.List.{All, flat_map, list_all, list_any}
-use Rattle.std.specs.Option.{option_map}
-use Rattle.std.specs.Str.{bytes_eq}
+-- Cores over names by place: what their places have.
+use Rattle.std.proofs.Common.{◌≡◌, ◌≤◌, ◌<◌, ◌++◌, ◌+◌, ℕ, zero, suc, ◌==◌, Bool, true, false, List, [], ◌∷◌, Option, Some, None, length, map, get_or, slice_get, if◌then◌else◌, refl, sym, ap, ap₂, ◌∙◌, subst, arith}
+use Rattle.std.specs.List.{All, flat_map, list_all}
 use Rattle.std.proofs.lemmas.Bool.{eq-eqb, eqb-false, eqb-true, ne_eqb}
-use Rattle.std.proofs.lemmas.List.{append-nil}
 use Rattle.std.proofs.lemmas.List.Elements.{All-cons, All-get_or, All-nil}
 use Rattle.std.proofs.lemmas.Option.{get_or_from_slice_get, slice_get-get_or, slice_get_within}
-use Rattle.og_base.proofs.SetMembers.{list_any-set_of}
-use Rattle.og_value.specs.Values.{row_at}
 use Rattle.og_value.specs.Words.{is_word, folded}
 use Rattle.og_base.specs.Letters.{is_in_word}
-use Rattle.og_rel.proofs.PresentLemmas.{relation_at-append}
 use Rattle.og_query.specs.Fits.{Schemas, core_kinds, IsAsNamed, IsFitSemi, IsFitCore, IsFitRest, IsFitQuery}
 use Rattle.og_query.specs.Kinds.{fits, kind_in, kinds_of}
 use Rattle.og_query.specs.declared.query.Core.{Core}
 use Rattle.og_query.specs.declared.query.From1.{From1}
-use Rattle.og_query.proofs.QueryLemmas.{rows_ordered}
-use Rattle.og_exec.specs.Tables.{Relations, rows_at, rows_on, rows_or_none}
+use Rattle.og_exec.specs.Tables.{Relations}
+use Rattle.og_reduce.proofs.PlaceLemmas.{and_nothing, nothing_and, one_across}
 use Rattle.og_db.specs.Database.{Relation}
-use Rattle.og_db.specs.Held.{Held, changed_at, found, made_of, rows_of}
-use Rattle.og_view.specs.Placed.{AreGrown, beside, columns_at, gets, letters, place_schemas, placed, placed_from, placed_core, placed_query}
-use Rattle.og_view.specs.Rows.{IsAlike}
+use Rattle.og_view.specs.Placed.{beside, columns_at, letters, place_schemas, placed, placed_from, placed_core, placed_query}
 
 -- one more letter
 pub letters-push : (k : ℕ) → letters k ++ 112 ∷ [] ≡ 112 ∷ letters k
@@ -46,18 +37,6 @@ letters_word k = all k
 pub letters_lower : (k : ℕ) → folded (letters k) ≡ letters k
 letters_lower zero = refl
 letters_lower (suc k) = ap (λ rest. 112 ∷ rest) (letters_lower k)
-
--- a number and nothing
-pub and_nothing : (k : ℕ) → k ≡ k + 0
-and_nothing k = omega arith
-
--- one more in either place
-pub one_across : (k m : ℕ) → suc k + m ≡ k + suc m
-one_across k m = omega arith
-
--- nothing and a number
-pub nothing_and : (k : ℕ) → 0 + k ≡ k
-nothing_and k = omega arith
 
 -- numbers that are each one more
 one_off : (a b : ℕ) → (suc a == suc b) ≡ (a == b)
@@ -159,63 +138,3 @@ module _ {A : Type 0} where
 pub beside_here : (named : Relations) (new : Relation) (tables : List From1) (place : ℕ) (table : From1) → place < length tables → beside named new place place (slice_get tables place) ≡ Some new
 beside_here named new tables place table within =
     ap (beside named new place place) (slice_get-get_or tables place table within) ∙ ap (λ b. if b then Some new else named (get_or tables place table).name) (eq-eqb place place refl)
-
--- the rows of each name after one is changed
-pub rows_of-changed : {V : Type 0} (name : List ℕ) (g : V → V) (db : List (Held V)) (other : List ℕ) → rows_of (changed_at name g db) other ≡ option_map (λ rows. if bytes_eq name other then g rows else rows) (rows_of db other)
-rows_of-changed name g [] other = refl
-rows_of-changed name g (h ∷ hs) other = at (bytes_eq other h.name) refl (rows_of-changed name g hs other)
-  where
-    made : (b : Bool) → (if b then made_of g h else h).rows ≡ (if b then g h.rows else h.rows)
-    made true = refl
-    made false = refl
-
-    named : (b : Bool) → (if b then made_of g h else h).name ≡ h.name
-    named true = refl
-    named false = refl
-
-    at : (c : Bool) → bytes_eq other h.name ≡ c → rows_of (changed_at name g hs) other ≡ option_map (λ rows. if bytes_eq name other then g rows else rows) (rows_of hs other)
-        → rows_of (changed_at name g (h ∷ hs)) other ≡ option_map (λ rows. if bytes_eq name other then g rows else rows) (rows_of (h ∷ hs) other)
-    at true here rest =
-        ap (λ c. option_map (λ h. h.rows) (if c then Some (if bytes_eq name h.name then made_of g h else h) else found (changed_at name g hs) other)) (ap (bytes_eq other) (named (bytes_eq name h.name)) ∙ here)
-        ∙ ap Some (made (bytes_eq name h.name) ∙ ap (λ other. if bytes_eq name other then g h.rows else h.rows) (sym (same_text other h.name (sym here))))
-        ∙ sym (ap (λ c. option_map (λ rows. if bytes_eq name other then g rows else rows) (option_map (λ h. h.rows) (if c then Some h else found hs other))) here)
-    at false here rest =
-        ap (λ c. option_map (λ h. h.rows) (if c then Some (if bytes_eq name h.name then made_of g h else h) else found (changed_at name g hs) other)) (ap (bytes_eq other) (named (bytes_eq name h.name)) ∙ here)
-        ∙ rest
-        ∙ sym (ap (λ c. option_map (λ rows. if bytes_eq name other then g rows else rows) (option_map (λ h. h.rows) (if c then Some h else found hs other))) here)
-
-module _ (name : List ℕ) (new : Relation) (before : List (Held Relation)) (rel : Relation) (there : rows_of before name ≡ Some rel) where
-  -- the names after one gets new rows
-  abbrev pub after : List (Held Relation)
-  after = changed_at name (λ rel. rel ++ new) before
-
-  -- the relation of each name then
-  rows_of-after : (other : List ℕ) → rows_of after other ≡ option_map (λ rel. rel ++ gets name new other) (rows_of before other)
-  rows_of-after other = rows_of-changed name (λ rel. rel ++ new) before other ∙ at (rows_of before other) (bytes_eq name other)
-    where
-      at : (o : Option Relation) (b : Bool) → option_map (λ rel. if b then rel ++ new else rel) o ≡ option_map (λ rel. rel ++ (if b then new else [])) o
-      at None b = refl
-      at (Some old) true = refl
-      at (Some old) false = ap Some (sym (append-nil old))
-
-  -- a name that is not there gets nothing
-  none_gets : (other : List ℕ) → rows_of before other ≡ None → gets name new other ≡ []
-  none_gets other none = at (bytes_eq name other) refl
-    where
-      at : (b : Bool) → bytes_eq name other ≡ b → (if b then new else []) ≡ []
-      at true here = let e : Some rel ≡ None = sym there ∙ ap (rows_of before) (same_text name other (sym here)) ∙ none in cc e
-      at false here = refl
-
-  -- the rows of each name on a day
-  pub alike-after : (d : ℤ) (other : List ℕ) → IsAlike (rows_at (rows_of after) d other) (rows_at (rows_of before) d other ++ rows_on (gets name new other) d)
-  alike-after d other p = ap (λ o. list_any p (rows_or_none o d)) (rows_of-after other) ∙ at (rows_of before other) refl
-    where
-      at : (o : Option Relation) → rows_of before other ≡ o → list_any p (rows_or_none (option_map (λ rel. rel ++ gets name new other) o) d) ≡ list_any p (rows_or_none o d ++ rows_on (gets name new other) d)
-      at (Some old) is =
-          ap (list_any p) (relation_at-append rows_ordered row_at old (gets name new other) d)
-          ∙ list_any-set_of rows_ordered.exact p (rows_on old d ++ rows_on (gets name new other) d)
-      at None is = sym (ap (λ more. list_any p (rows_on more d)) (none_gets other is))
-
-  -- so each name has what it had and what it gets
-  pub grown-after : (now : List (Held Relation)) → now ≡ after → AreGrown (rows_of now) (rows_of before) name new
-  grown-after now changed d day other p = ap (λ db. list_any p (rows_at (rows_of db) d other)) changed ∙ alike-after d other p

@@ -1,5 +1,5 @@
 -- A result that has lost rows: what is left of it are its rows that do not pass tests which the lost ones pass, and those that are left and pass.
-use Rattle.std.proofs.Common.{◌≡◌, ◌++◌, ◌||◌, ◌&&◌, ℕ, ℤ, Bool, true, false, not, List, [], ◌∷◌, filter, map, refl, sym, ap, ap₂, ◌∙◌}
+use Rattle.std.proofs.Common.{◌≡◌, ◌++◌, ◌||◌, ◌&&◌, ℕ, ℤ, Bool, true, false, not, List, [], ◌∷◌, filter, length, map, refl, sym, ap, ap₂, subst, ◌∙◌}
 use Rattle.std.specs.List.{All, AllByRecursion, flat_map, list_any}
 use Rattle.std.specs.List.Sorted.{IsStrictlySortedBy}
 use Rattle.std.proofs.lemmas.List.{append_assoc}
@@ -13,7 +13,7 @@ use Rattle.og_base.proofs.SetMembers.{list_any-filter, list_any-set_of, list_any
 use Rattle.og_value.specs.Order.{row_order}
 use Rattle.og_value.specs.Values.{row_at}
 use Rattle.og_rel.specs.Relations.{others}
-use Rattle.og_rel.proofs.AlgebraLemmas.{any_of_none, or_false, same_set_by_tests}
+use Rattle.og_rel.proofs.AlgebraLemmas.{any_of_either, any_of_none, or_false, same_set_by_tests}
 use Rattle.og_rel.proofs.PresentLemmas.{list_any-relation_at, relation_at-append}
 use Rattle.og_join.proofs.PlaceTests.{list_any-known}
 use Rattle.og_query.specs.Queries.{Fixed, core_rows, ordinary_query}
@@ -24,14 +24,31 @@ use Rattle.og_query.proofs.QueryLemmas.{answer_rises, rows_ordered}
 use Rattle.og_exec.specs.Tables.{Relation, Relations, rows_at, rows_on}
 use Rattle.og_view.specs.Again.{passing_rows}
 use Rattle.og_db.specs.Held.{Held, rows_of}
+use Rattle.og_reduce.specs.Places.{ArePlaces, others_at, places}
+use Rattle.og_reduce.proofs.PlaceLemmas.{others-none, others-places, places-are}
+use Rattle.og_view.specs.Changes.{IsChange}
+use Rattle.og_view.specs.declared.change.Change.{Change}
 use Rattle.og_view.specs.Placed.{AreGrown, cores_of, more_rows}
-use Rattle.og_view.specs.Sieves.{Test, passes, row_passes}
+use Rattle.og_reduce.specs.Sieves.{Test, passes, row_passes}
 use Rattle.og_view.specs.Views.{IsLiveQuery, IsLiveRest}
 use Rattle.og_view.proofs.GrownLemmas.{core_rows-over}
-use Rattle.og_view.proofs.InsertedLemmas.{answer-grown, answer-more}
+use Rattle.og_view.proofs.InsertedLemmas.{answer-extended, answer-grown, answer-more, result-untouched}
 use Rattle.og_view.proofs.LiveLemmas.{ordinary_query-live}
-use Rattle.og_view.proofs.SieveLemmas.{passes-on_day, rows_on-filter}
-use Rattle.og_view.proofs.TakenLemmas.{any_parted}
+use Rattle.og_reduce.proofs.SieveLemmas.{passes-on_day}
+use Rattle.og_view.proofs.SieveLemmas.{rows_on-filter}
+
+-- rows are those of which a condition does not hold and those of which it does
+any_parted : (holds p : Fixed → Bool) (rows : List Fixed) → list_any p rows ≡ list_any p (filter (λ row. not (holds row)) rows ++ filter holds rows)
+any_parted holds p rows =
+    (λ i. list_any (λ row. either (holds row) (p row) i) rows)
+    ∙ any_of_either (λ row. not (holds row) && p row) (λ row. holds row && p row) rows
+    ∙ sym (list_any-append p (filter (λ row. not (holds row)) rows) (filter holds rows)
+    ∙ ap₂ (λ a b. a || b) (list_any-filter p (λ row. not (holds row)) rows) (list_any-filter p holds rows))
+  where
+    either : (b x : Bool) → x ≡ ((not b && x) || (b && x))
+    either true x = refl
+    either false true = refl
+    either false false = refl
 
 -- what passes is not among what does not
 not_both : (present passing other : Bool) → passing ≡ true → (present && (not passing && other)) ≡ false
@@ -103,23 +120,32 @@ module _ (d : ℤ) (named : Relations) (tests : List Test) where
       ∙ sym (filter-set_of rows_ordered (passes tests) (core_rows d (rows_at named d) query.first ++ rests))
       ∙ ap (filter (passes tests)) (sym (ordinary_query-live d (rows_at named d) query live))
 
--- a result of which rows are lost by those that were taken from a base
-module _ (query : Query) (live : IsLiveQuery query) (old left : List (Held Relation)) (name : List ℕ) (gone : Relation) (shrinks : AreGrown (rows_of old) (rows_of left) name gone)
-    (tests : List Test) (result lost again : Relation) (pass : All (λ p. row_passes tests p.0 ≡ true) lost) (d : ℤ) (day : IsRefDay d)
-    (answer : rows_on result d ≡ ordinary_query d (rows_at (rows_of old) d) query)
-    (taken : rows_on lost d ≡ set_of row_order (flat_map (more_rows d (rows_of old) name gone) (cores_of query)))
-    (there : rows_on again d ≡ filter (passes tests) (ordinary_query d (rows_at (rows_of left) d) query)) where
-  -- its rows that do not pass, and those that do and are left, are the answer over what is left
-  pub answer-left : ordinary_query d (rows_at (rows_of left) d) query ≡ rows_on (others (row_passes tests) result ++ again) d
-  answer-left =
-      sym (left-again d tests result lost (ordinary_query d (rows_at (rows_of left) d) query) (flat_map (more_rows d (rows_of old) name gone) (cores_of query))
-      (answer ∙ answer-grown query live left old name gone shrinks d day) taken pass (answer_rises d (rows_at (rows_of left) d) query) again there)
+-- a result that loses rows by those that are gone of a table, and gets rows by those that are new of it
+module _ (query : Query) (live : IsLiveQuery query) (old left after : List (Held Relation)) (name : List ℕ) (gone new : Relation)
+    (shrinks : AreGrown (rows_of old) (rows_of left) name gone) (grows : AreGrown (rows_of after) (rows_of left) name new) (result lost added : Relation)
+    (answer : (d : ℤ) → IsRefDay d → rows_on result d ≡ ordinary_query d (rows_at (rows_of old) d) query)
+    (loses : (d : ℤ) → IsRefDay d → rows_on lost d ≡ set_of row_order (flat_map (more_rows d (rows_of old) name gone) (cores_of query)))
+    (adds : (d : ℤ) → IsRefDay d → rows_on added d ≡ set_of row_order (flat_map (more_rows d (rows_of after) name new) (cores_of query))) (change : Change) where
+  -- where none are lost those that are new come behind it
+  pub change-extended : lost ≡ [] → change.at.items ≡ [] → change.rows ≡ added → IsChange after query result change
+  change-extended none at rows = record {
+    at = subst (λ at. ArePlaces at (length result)) (sym at) tt;
+    law = λ d day.
+        answer-extended query live left after name new grows result added d day
+        (result-untouched query live left old name gone shrinks result lost (cores_of query) d day refl none (loses d day) (answer d day)) (adds d day)
+        ∙ sym (relation_at-append rows_ordered row_at result added d)
+        ∙ (λ i. rows_on ((sym (others-none result) ∙ ap (λ at. others_at at result) (sym at)) i ++ (sym rows) i) d);
+  }
 
-  -- and with the rows that new ones add the answer over what there is then
-  pub answer-replaced : (after : List (Held Relation)) (new more : Relation) → AreGrown (rows_of after) (rows_of left) name new
-      → rows_on more d ≡ set_of row_order (flat_map (more_rows d (rows_of after) name new) (cores_of query))
-      → ordinary_query d (rows_at (rows_of after) d) query ≡ rows_on (others (row_passes tests) result ++ (again ++ more)) d
-  answer-replaced after new more grows add =
-      answer-more query live left after name new grows more d day add
-      ∙ sym (left-again-more d tests result lost (ordinary_query d (rows_at (rows_of left) d) query) (flat_map (more_rows d (rows_of old) name gone) (cores_of query))
-      (answer ∙ answer-grown query live left old name gone shrinks d day) taken pass (answer_rises d (rows_at (rows_of left) d) query) again there more)
+  module _ (tests : List Test) (again : Relation) (pass : All (λ p. row_passes tests p.0 ≡ true) lost)
+      (there : (d : ℤ) → IsRefDay d → rows_on again d ≡ filter (passes tests) (ordinary_query d (rows_at (rows_of left) d) query)) where
+    -- and else those that pass tests which the lost ones pass give place to those that are still there
+    pub change-replaced : change.at.items ≡ places (λ p. row_passes tests p.0) result → change.rows ≡ again ++ added → IsChange after query result change
+    change-replaced at rows = record {
+      at = subst (λ at. ArePlaces at (length result)) (sym at) (places-are (λ p. row_passes tests p.0) result);
+      law = λ d day.
+          answer-more query live left after name new grows added d day (adds d day)
+          ∙ sym (left-again-more d tests result lost (ordinary_query d (rows_at (rows_of left) d) query) (flat_map (more_rows d (rows_of old) name gone) (cores_of query))
+          (answer d day ∙ answer-grown query live left old name gone shrinks d day) (loses d day) pass (answer_rises d (rows_at (rows_of left) d) query) again (there d day) added)
+          ∙ (λ i. rows_on ((sym (others-places (λ p. row_passes tests p.0) result) ∙ ap (λ at. others_at at result) (sym at)) i ++ (sym rows) i) d);
+    }

@@ -1,24 +1,22 @@
--- Views: that they are answered, and what names they use.
-use Rattle.std.proofs.Common.{◌≡◌, ◌||◌, ℕ, Bool, true, false, List, [], ◌∷◌, Some, refl, sym, ap, ◌∙◌, true≢false}
+-- Views: what they hold, and the names that their queries use.
+use Rattle.std.proofs.Common.{◌≡◌, ◌||◌, ℕ, Bool, true, false, List, [], ◌∷◌, Option, None, Some, refl, sym, ap, ◌∙◌, true≢false}
 use Rattle.std.specs.Cmp.Lexicographic.{same_text}
 use Rattle.std.specs.List.{AllByRecursion, list_any}
 use Rattle.std.specs.Str.{bytes_eq}
 use Rattle.std.proofs.lemmas.List.Elements.{recursion_from_All}
 use Rattle.og_value.specs.declared.kind.Kind.{Kind}
-use Rattle.og_value.specs.declared.kind.What.TheVariants as what
 use Rattle.og_value.specs.declared.schema.Column.{Column}
-use Rattle.og_query.specs.Fits.{Known, Schemas, core_kinds, tables_of, IsAsNamed, IsFitSemi, IsFitCore, IsFitRest, IsFitQuery}
+use Rattle.og_query.specs.Fits.{Schemas, core_kinds, IsAsNamed, IsFitSemi, IsFitCore, IsFitRest, IsFitQuery}
 use Rattle.og_query.specs.declared.query.Core.{Core}
 use Rattle.og_query.specs.declared.query.From1.{From1}
 use Rattle.og_query.specs.declared.query.Query.{Query}
 use Rattle.og_query.specs.declared.query.Rest.{Rest}
 use Rattle.og_query.specs.declared.query.Semi.{Semi}
-use Rattle.og_exec.specs.Tables.{Relations}
 use Rattle.og_db.specs.Database.{Relation}
-use Rattle.og_db.specs.Held.{Held, known_of, rows_of}
-use Rattle.og_view.specs.Bases.{AreCopied}
 use Rattle.og_db.specs.Live.{core_uses, uses}
-use Rattle.og_view.proofs.BaseLemmas.{table_known}
+use Rattle.og_view.specs.Changes.{next_of, result_of}
+use Rattle.og_view.specs.declared.change.Next.{Next}
+use Rattle.og_view.specs.declared.change.Next.TheVariants as next
 
 module _ (schemas : Schemas) (name : List ℕ) where
   -- the name has columns
@@ -71,11 +69,8 @@ module _ (schemas : Schemas) (name : List ℕ) where
       at true here there = in_core query.first fit.first here
       at false here there = in_rest query.first query.rest (recursion_from_All (IsFitRest schemas query.first) query.rest fit.rest) there
 
--- a name that a query uses is among its bases what it is among the tables, and has the same relation
-pub used_is_copied : (known : Known) (named : Relations) (bases : List (Held Relation)) (query : Query) → AreCopied known named bases → IsFitQuery (tables_of (known_of bases)) query
-    → (name : List ℕ) → uses query name ≡ true → (known_of bases name ≡ known name) × (rows_of bases name ≡ named name)
-used_is_copied known named bases query copied fit name there =
-    let has = used_has_columns (tables_of (known_of bases)) name query fit there in
-    let is = table_known (known_of bases name) has.0 has.1 in
-    let one = copied name (what.Table, has.0) is in
-    (is ∙ sym one.0, one.1)
+-- where nothing is followed, the rows that are held are the result
+pub held_alone : (held : Relation) (next : Option Next) → next_of held next ≡ None → held ≡ result_of held next
+held_alone held None none = refl
+held_alone held (Some (next.Changed at len)) none = cc
+held_alone held (Some (next.Renewed rel)) none = cc

@@ -1,11 +1,8 @@
 pub mod Again
-pub mod Answers
-pub mod Bases
-pub mod Numbers
+pub mod Changes
 pub mod Parts
 pub mod Placed
 pub mod Plans
-pub mod RangeTests
 pub mod Rows
-pub mod Sieves
+pub mod Tables
 pub mod Views

@@ -6,7 +6,7 @@ use Rattle.std.specs.Option.{option_map}
 use Rattle.og_query.specs.declared.query.From1.{From1}
 use Rattle.og_exec.specs.Tables.{Relation, Relations}
 use Rattle.og_view.specs.Placed.{beside}
-use Rattle.og_view.specs.Sieves.{Test, sifted}
+use Rattle.og_reduce.specs.Sieves.{Test, sifted}
 use Rattle.og_view.specs.declared.part.Part.{Part}
 use Rattle.og_view.specs.declared.part.PartRows.{PartRows}
 use Rattle.og_view.specs.declared.part.PartRows.TheVariants as part_rows

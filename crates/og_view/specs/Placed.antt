@@ -11,7 +11,8 @@ use Rattle.og_query.specs.declared.query.From1.{From1}
 use Rattle.og_query.specs.declared.query.Query.{Query}
 use Rattle.og_exec.specs.Tables.{Relations, rows_at, rows_on}
 use Rattle.og_db.specs.Database.{Relation}
-use Rattle.og_view.specs.Rows.{IsAlike, rows_over, turns}
+use Rattle.og_db.specs.Deltas.{IsAlike}
+use Rattle.og_view.specs.Rows.{rows_over, turns}
 
 -- so many letters p
 abbrev pub letters : ℕ → List ℕ

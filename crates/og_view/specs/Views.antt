@@ -1,5 +1,5 @@
 -- Views: queries that are kept answered.
-use Rattle.std.specs.Prelude.{◌≡◌, ◌≤◌, ℤ, List, [], length}
+use Rattle.std.specs.Prelude.{◌≡◌, ◌≤◌, ℤ, List, [], Option, length}
 use Rattle.std.specs.List.{All}
 use Rattle.og_base.specs.Calendar.{IsRefDay}
 use Rattle.og_value.specs.Order.{row_order}
@@ -14,6 +14,7 @@ use Rattle.og_query.specs.declared.query.Rest.{Rest}
 use Rattle.og_exec.specs.Tables.{rows_at, sizes_of}
 use Rattle.og_db.specs.Database.{Relation, HaveKinds}
 use Rattle.og_db.specs.Held.{Held, known_of, rows_of}
+use Rattle.og_db.specs.Statements.{or_else}
 
 -- a further core is added by UNION, and has no EXISTS
 abbrev pub IsLiveRest : Rest → Type 0
@@ -24,20 +25,25 @@ pub record IsLiveQuery (query : Query) : Type 0 where
   pub first : query.first.semis ≡ []
   pub rest : All IsLiveRest query.rest
 
--- a view: its query, the tables that the query names, and the result
+-- a view: its query, the result, and what the result is to be next, where it has followed a delta
 pub record Seen : Type 0 where
   pub query : Query
-  pub bases : List (Held Relation)
   pub result : Relation
+  pub next : Option Relation
 
--- the view of a query, of bases, and of a result
-abbrev pub seen : Query → List (Held Relation) → Relation → Seen
-seen query bases result = record { query = query; bases = bases; result = result }
+-- the view of a query, of a result, and of what it is to be
+abbrev pub seen : Query → Relation → Option Relation → Seen
+seen query result next = record { query = query; result = result; next = next }
 
--- the query is one of a live result and fits the bases, and the result is on each day its answer over the bases of that day, with no more rows than its size
-pub record IsAnswered (view : Seen) : Type 0 where
-  pub live : IsLiveQuery view.query
-  pub fits : IsFitQuery (tables_of (known_of view.bases)) view.query
-  pub law : (d : ℤ) → IsRefDay d → relation_at row_order row_at view.result d ≡ ordinary_query d (rows_at (rows_of view.bases) d) view.query
-  pub size : length view.result ≤ query_size (sizes_of (rows_of view.bases)) view.query
-  pub kinds : HaveKinds view.query.first.schema view.result
+-- what the result is to be: as it is, where nothing was followed
+abbrev pub to_be : Seen → Relation
+to_be view = or_else view.result view.next
+
+-- a relation is the answer of the query of a live result over tables: the query fits them, and on each day the relation has the rows of the query over the tables of
+-- that day; its rows fit the columns of the query, and there are no more than its size
+pub record IsAnswerOver (tables : List (Held Relation)) (query : Query) (rel : Relation) : Type 0 where
+  pub live : IsLiveQuery query
+  pub fits : IsFitQuery (tables_of (known_of tables)) query
+  pub law : (d : ℤ) → IsRefDay d → relation_at row_order row_at rel d ≡ ordinary_query d (rows_at (rows_of tables) d) query
+  pub size : length rel ≤ query_size (sizes_of (rows_of tables)) query
+  pub kinds : HaveKinds query.first.schema rel

@@ -1,7 +1,6 @@
 //! Queries that are asked again and again.
 ghost use Rattle.std.specs.Prelude.{◌≡◌, ◌≤◌, ℤ, IfOk, length};
 ghost use Rattle.og_base.specs.Calendar.{IsRefDay};
-ghost use Rattle.og_par.specs.Limits.{max_workers};
 ghost use Rattle.og_rel.specs.Relations.{relation_at};
 ghost use Rattle.og_value.specs.Order.{row_order};
 ghost use Rattle.og_value.specs.Values.{row_at};
@@ -10,12 +9,12 @@ ghost use Rattle.og_query.specs.Queries.{ordinary_query};
 ghost use Rattle.og_query.specs.Sizes.{query_size};
 ghost use Rattle.og_exec.specs.Tables.{rows_at, sizes_of};
 ghost use Rattle.og_db.specs.Database.{HaveKinds};
-ghost use Rattle.og_view.specs.Bases.{AreHeld};
+ghost use Rattle.og_view.specs.Tables.{AreHeld};
 
 use og_base::NoMemory;
 use og_db::fitting_rows;
 use og_exec::exec;
-use og_par::Gate;
+use og_par::{Crew, Gate};
 use og_plan::{Plan, fitting_queries, plan_of};
 use og_query::Query;
 use og_rel::{Rel, Tables};
@@ -70,14 +69,9 @@ impl Asked {
     // that day. Refused only for want of memory.
     pub(crate) fn answered<H: Threads + Sync, T: Tables<Row>, G: Gate + Sync>(
         &self,
-        rt: &H,
-        alloc: Global,
+        crew: &Crew<'_, H, G>,
         tables: &T,
-        workers: usize,
-        gate: &G,
     ) -> Result<Rel<Row>, NoMemory>
-        requires least { 1 ≤ workers }
-        requires most { workers ≤ max_workers }
         requires fits { (schemas : Schemas) × IsFitQuery schemas self.now × AreHeld schemas (T.named tables.now) }
         ensures law { IfOk result (λ rel. (d : ℤ) → IsRefDay d →
             relation_at row_order row_at rel d ≡ ordinary_query d (rows_at (T.named tables.now) d) self.now) }
@@ -87,7 +81,7 @@ impl Asked {
         fitting_queries();
         fitting_rows();
         order_of_rows();
-        let rel = exec(rt, alloc, self.plan.get(), tables, workers, gate)?;
+        let rel = exec(crew, self.plan.get(), tables)?;
         rel.some_days();
         Ok(rel)
     }

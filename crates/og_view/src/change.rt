@@ -1,35 +1,19 @@
-//! New rows of a table, and what the places of a core have beside them.
-ghost use Rattle.std.specs.Prelude.{◌≡◌, ◌==◌, Some, option_map, if◌then◌else◌};
+//! Changes of the result of a view.
+use og_reduce::Stored;
+use og_rel::Rel;
+use og_value::Row;
 
-use og_query::From1;
-use og_rel::{Rel, Tables};
-use og_value::{Name, Row};
-
-// New rows of the table of a name, and tables in which it has them already.
+// A change of a result: the places of the rows that go, which rise, and the rows that come.
 #[derive(Drop)]
-pub(crate) struct Change<'c, T> {
-    pub(crate) name: &'c Name,
-    pub(crate) over: &'c T,
-    pub(crate) new: &'c Rel<Row>,
+pub(crate) struct Change {
+    pub(crate) at: Vec<usize>,
+    pub(crate) rows: Rel<Row>,
 }
 
-impl<T: Tables<Row>> Change<'_, T> {
-    // The relation of a table at that place, where one place has the new rows alone.
-    pub(crate) fn beside(&self, place: usize, k: usize, table: &From1) -> Option<&Rel<Row>>
-        ensures { option_map (λ r. r.now) result ≡ (if k == place then Some self.now.new.now else T.named self.now.over.now table.now.name) }
-    {
-        if k == place {
-            return Some(self.new);
-        }
-        self.over.rel(table.name.bytes())
-    }
-}
-
-// What an UPDATE makes of the rows of a base: what is left of them, what is gone, and what it puts in the
-// place of that.
+// What a result is to be next: without the rows at places of its first `len`, behind which those stand that come;
+// or another one.
 #[derive(Drop)]
-pub(crate) struct Changed<'r> {
-    pub(crate) left: &'r Rel<Row>,
-    pub(crate) gone: &'r Rel<Row>,
-    pub(crate) new: &'r Rel<Row>,
+pub(crate) enum Next {
+    Changed { at: Vec<usize>, len: usize },
+    Renewed(Stored),
 }

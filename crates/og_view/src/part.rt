@@ -4,11 +4,11 @@ ghost use Rattle.std.specs.List.{All};
 ghost use Rattle.og_query.specs.declared.query.From1.{From1};
 ghost use Rattle.og_view.specs.Parts as spec;
 ghost use Rattle.og_view.specs.Parts.{IsHanded, LiesIn, rel_of};
-ghost use Rattle.og_view.specs.Sieves.{sifted};
+ghost use Rattle.og_reduce.specs.Sieves.{sifted};
 
-use crate::sieve::{Sieve, Test};
 use og_base::NoMemory;
 use og_query::From1;
+use og_reduce::{Sieve, Stored, Test};
 use og_rel::{Rel, Tables};
 use og_value::Row;
 use std::alloc::Global;
@@ -29,6 +29,21 @@ impl<'t> PartRows<'t> {
             return Ok(PartRows::All(rel));
         }
         Ok(PartRows::Sifted(rel.passing(sieve)?))
+    }
+
+    // The rows of the table that pass the sieve.
+    pub(crate) fn of_table(
+        alloc: Global,
+        table: &'t Stored,
+        sieve: &Sieve<'_>,
+    ) -> Result<PartRows<'t>, NoMemory>
+        ensures { IfOk result (λ rows. rel_of rows ≡ sifted sieve.now table.now) }
+    {
+        if sieve.tests.len() == 0 {
+            return Ok(PartRows::All(table.rel()));
+        }
+        let found = table.found(alloc, sieve)?;
+        Ok(PartRows::Sifted(found.rows))
     }
 
     // The rows.

@@ -1,32 +1,31 @@
 //! Cores over names by place, which are asked for what they have by new rows of a table.
-ghost use Rattle.std.specs.Prelude.{◌≡◌, ◌≤◌, ◌<◌, ◌+◌, ◌++◌, ℕ, ℤ, Some, true, List, [], IfOk, IfSome, OnOk, length, slice_get, slice_index_or, take};
+ghost use Rattle.std.specs.Prelude.{◌≡◌, ◌≤◌, ◌<◌, ◌+◌, ◌++◌, ℕ, ℤ, Some, true, [], IfOk, IfSome, OnOk, length, slice_get, slice_index_or, take};
 ghost use Rattle.std.specs.List.{All, flat_map};
 ghost use Rattle.og_base.specs.Calendar.{IsRefDay};
 ghost use Rattle.og_base.specs.Set.{set_of};
-ghost use Rattle.og_par.specs.Limits.{max_workers};
 ghost use Rattle.og_value.specs.Order.{row_order};
 ghost use Rattle.og_query.specs.Conditions.{truth};
 ghost use Rattle.og_query.specs.Fits.{IsFitCore, IsFitQuery, Schemas};
 ghost use Rattle.og_query.specs.Queries.{Fixed};
 ghost use Rattle.og_query.specs.declared.query.From1.{From1};
 ghost use Rattle.og_exec.specs.Tables.{rows_on};
-ghost use Rattle.og_view.specs.Bases.{HasNew};
+ghost use Rattle.og_view.specs.Tables.{HasNew};
 ghost use Rattle.og_view.specs.Parts.{AreParts, IsPart, beside_at, width_of};
 ghost use Rattle.og_view.specs.Placed as spec;
 ghost use Rattle.og_view.specs.Placed.{beside, cores_of, more_lists, more_rows, placed_query};
 ghost use Rattle.og_view.specs.Rows.{rows_over};
-ghost use Rattle.og_view.specs.Sieves.{passes, tests_from};
+ghost use Rattle.og_reduce.specs.Sieves.{passes, tests_from};
 
 use crate::asked::Asked;
-use crate::change::Change;
-use crate::part::{Part, PartRows, Parts, handed};
-use crate::same::shared;
-use crate::sieve::{Keys, Sieve, keys_of};
+use crate::delta_rows::DeltaRows;
+use crate::narrowed::Narrowed;
+use crate::part::{Part, Parts, handed};
 use og_base::NoMemory;
 use og_db::fitting_rows;
-use og_par::Gate;
+use og_par::{Crew, Gate};
 use og_query::{Core, From1, Query, copy_expressions};
-use og_rel::{Rel, Tables};
+use og_reduce::{Keys, Sieve, keys_of, shared};
+use og_rel::Rel;
 use og_value::{Name, NameRefusal, Row};
 use sqlite_items::Items;
 use std::alloc::Global;
@@ -144,23 +143,19 @@ impl Placed {
     // Appends the rows that the core has by the new rows at one place, where the table there gets some. Where these
     // are few, of the other tables those rows alone are joined that have in columns which the condition says are
     // equal to some of the new rows what these have there.
-    fn add_at<H: Threads + Sync, T: Tables<Row>, G: Gate + Sync>(
+    fn add_at<H: Threads + Sync, T: Narrowed, G: Gate + Sync>(
         &self,
-        rt: &H,
-        alloc: Global,
-        change: &Change<'_, T>,
+        crew: &Crew<'_, H, G>,
+        change: &DeltaRows<'_, T>,
         place: usize,
-        workers: usize,
-        gate: &G,
         more: &mut Rel<Row>,
     ) -> Result<(), NoMemory>
-        requires least { 1 ≤ workers }
-        requires most { workers ≤ max_workers }
         requires within { place < length self.now.tables }
-        requires fits { (schemas : Schemas) × IsFitCore schemas self.now × HasNew schemas (T.named change.now.over.now) change.now.name.now change.now.new.now }
+        requires fits { (schemas : Schemas) × IsFitCore schemas self.now × HasNew schemas (T.Tables.named change.now.over.now) change.now.name.now change.now.new.now }
         ensures { OnOk result ((d : ℤ) → IsRefDay d → rows_on more.new d ≡ set_of row_order (rows_on more.old d
-            ++ rows_over d self.now (slice_index_or (more_lists d (T.named change.now.over.now) change.now.name.now change.now.new.now self.now) place []))) }
+            ++ rows_over d self.now (slice_index_or (more_lists d (T.Tables.named change.now.over.now) change.now.name.now change.now.new.now self.now) place []))) }
     {
+        let alloc = crew.alloc();
         fitting_rows();
         let tables = self.core.tables.as_slice();
         if change.new.len() == 0 || *change.name != tables[place].name {
@@ -173,28 +168,23 @@ impl Placed {
         let places = Parts {
             parts: parts.as_slice(),
         };
-        let rel = self.asked.answered(rt, alloc, &places, workers, gate)?;
+        let rel = self.asked.answered(crew, &places)?;
         more.append(rel)
     }
 
     // Appends the rows that the core has by the new rows, place by place.
-    pub(crate) fn add<H: Threads + Sync, T: Tables<Row>, G: Gate + Sync>(
+    pub(crate) fn add<H: Threads + Sync, T: Narrowed, G: Gate + Sync>(
         &self,
-        rt: &H,
-        alloc: Global,
-        change: &Change<'_, T>,
-        workers: usize,
-        gate: &G,
+        crew: &Crew<'_, H, G>,
+        change: &DeltaRows<'_, T>,
         more: &mut Rel<Row>,
     ) -> Result<(), NoMemory>
-        requires least { 1 ≤ workers }
-        requires most { workers ≤ max_workers }
-        requires fits { (schemas : Schemas) × IsFitCore schemas self.now × HasNew schemas (T.named change.now.over.now) change.now.name.now change.now.new.now }
+        requires fits { (schemas : Schemas) × IsFitCore schemas self.now × HasNew schemas (T.Tables.named change.now.over.now) change.now.name.now change.now.new.now }
         ensures { OnOk result ((d : ℤ) → IsRefDay d → rows_on more.new d ≡ set_of row_order (rows_on more.old d
-            ++ more_rows d (T.named change.now.over.now) change.now.name.now change.now.new.now self.now)) }
+            ++ more_rows d (T.Tables.named change.now.over.now) change.now.name.now change.now.new.now self.now)) }
     {
         'places: for place in 0..self.core.tables.len() {
-            self.add_at(rt, alloc, change, place, workers, gate, more)?;
+            self.add_at(crew, change, place, more)?;
         }
         Ok(())
     }
@@ -220,35 +210,32 @@ fn width_before(tables: &[From1], place: usize) -> Option<usize>
 }
 
 // The part of a table at that place, beside new rows at one place, that rows which pass the sieve can be made of.
-fn part_beside<'k, 't, T: Tables<Row>>(
+fn part_beside<'k, 't, T: Narrowed>(
     alloc: Global,
     sieve: &Sieve<'k>,
     tables: &[From1],
     place: usize,
     k: usize,
-    change: &'t Change<'_, T>,
+    change: &'t DeltaRows<'_, T>,
 ) -> Result<Part<'k, 't>, NoMemory>
     requires { k < length tables.now }
     ensures { (table : From1) → slice_get tables.now k ≡ Some table →
-        IfOk result (IsPart (beside (T.named change.now.over.now) change.now.new.now place k (Some table)) sieve.now (take k tables.now) table) }
+        IfOk result (IsPart (beside (T.Tables.named change.now.over.now) change.now.new.now place k (Some table)) sieve.now (take k tables.now) table) }
 {
     let sieve = handed(alloc, sieve, tables, k)?;
-    let rows = match change.beside(place, k, &tables[k]) {
-        Some(rel) => Some(PartRows::of(rel, &sieve)?),
-        None => None,
-    };
+    let rows = change.narrowed(alloc, place, k, &tables[k], &sieve)?;
     Ok(Part { sieve, rows })
 }
 
 // Such parts of all tables.
-fn parts_beside<'k, 't, T: Tables<Row>>(
+fn parts_beside<'k, 't, T: Narrowed>(
     alloc: Global,
     sieve: &Sieve<'k>,
     tables: &[From1],
     place: usize,
-    change: &'t Change<'_, T>,
+    change: &'t DeltaRows<'_, T>,
 ) -> Result<Vec<Part<'k, 't>>, NoMemory>
-    ensures { IfOk result (λ parts. AreParts (beside_at (T.named change.now.over.now) change.now.new.now place tables.now) sieve.now [] tables.now parts.items) }
+    ensures { IfOk result (λ parts. AreParts (beside_at (T.Tables.named change.now.over.now) change.now.new.now place tables.now) sieve.now [] tables.now parts.items) }
 {
     let mut parts = Vec::with_capacity(alloc, tables.len())?;
     'places: for k in 0..tables.len() {
@@ -271,23 +258,19 @@ pub(crate) fn placed_cores(alloc: Global, query: &Query) -> Result<Vec<Placed>, 
 }
 
 // The rows that cores have by new rows, one core after the other.
-pub(crate) fn more_of<H: Threads + Sync, T: Tables<Row>, G: Gate + Sync>(
-    rt: &H,
-    alloc: Global,
+pub(crate) fn more_of<H: Threads + Sync, T: Narrowed, G: Gate + Sync>(
+    crew: &Crew<'_, H, G>,
     cores: &[Placed],
-    change: &Change<'_, T>,
-    workers: usize,
-    gate: &G,
+    change: &DeltaRows<'_, T>,
 ) -> Result<Rel<Row>, NoMemory>
-    requires least { 1 ≤ workers }
-    requires most { workers ≤ max_workers }
-    requires fits { (schemas : Schemas) × All (IsFitCore schemas) cores.now × HasNew schemas (T.named change.now.over.now) change.now.name.now change.now.new.now }
+    requires fits { (schemas : Schemas) × All (IsFitCore schemas) cores.now × HasNew schemas (T.Tables.named change.now.over.now) change.now.name.now change.now.new.now }
     ensures { IfOk result (λ more. (d : ℤ) → IsRefDay d →
-        rows_on more d ≡ set_of row_order (flat_map (more_rows d (T.named change.now.over.now) change.now.name.now change.now.new.now) cores.now)) }
+        rows_on more d ≡ set_of row_order (flat_map (more_rows d (T.Tables.named change.now.over.now) change.now.name.now change.now.new.now) cores.now)) }
 {
+    let alloc = crew.alloc();
     let mut more = Rel::new(alloc);
     'cores: for core in cores {
-        core.add(rt, alloc, change, workers, gate, &mut more)?;
+        core.add(crew, change, &mut more)?;
     }
     Ok(more)
 }

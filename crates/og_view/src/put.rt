@@ -1,20 +1,25 @@
-//! Bases of which one has another relation.
+//! Tables of which one has another relation.
 ghost use Rattle.std.specs.Prelude.{◌≡◌, ℕ, List, Some};
 ghost use Rattle.og_value.specs.declared.schema.Column.{Column};
 ghost use Rattle.og_query.specs.Fits.{schemas_of};
 ghost use Rattle.og_db.specs.Database.{HaveKinds, Relation};
 ghost use Rattle.og_db.specs.Held.{known_of, put_at, rows_of};
-ghost use Rattle.og_view.specs.Bases.{IsPut};
+ghost use Rattle.og_view.specs.Tables.{IsPut};
 
+use crate::narrowed::Narrowed;
+use crate::part::PartRows;
+use og_base::NoMemory;
 use og_db::Db;
+use og_reduce::Sieve;
 use og_rel::{Rel, Tables};
 use og_value::{Name, Row};
+use std::alloc::Global;
 use std::marker::Model;
 
-// Bases and the relation that one of them has in the place of its own, seen as the bases with it.
+// Tables, and another relation for one of them, seen as the tables with it.
 #[derive(Drop)]
 pub(crate) struct Put<'b> {
-    bases: &'b Db,
+    tables: &'b Db,
     name: &'b Name,
     rel: &'b Rel<Row>,
 }
@@ -23,30 +28,30 @@ impl<'b> Model for Put<'b> {
     ghost use Rattle.std.specs.Prelude.{List};
     ghost use Rattle.og_db.specs.Database.{Relation};
     ghost use Rattle.og_db.specs.Held.{Held, put_at};
-    ghost use Rattle.og_view.specs.Bases.{IsPut};
+    ghost use Rattle.og_view.specs.Tables.{IsPut};
 
     ghost Value = { List (Held Relation) };
 
-    ghost view = { λ p. put_at p.name.now p.rel.now p.bases.now };
+    ghost view = { λ p. put_at p.name.now p.rel.now p.tables.now };
 
-    ghost invariant = { λ p. IsPut p.bases.now p.name.now p.rel.now };
+    ghost invariant = { λ p. IsPut p.tables.now p.name.now p.rel.now };
 }
 
 impl<'b> Put<'b> {
-    // The bases, where the base of that name has that relation.
-    pub(crate) fn new(bases: &'b Db, name: &'b Name, rel: &'b Rel<Row>) -> Put<'b>
-        requires { IsPut bases.now name.now rel.now }
-        ensures { result ≡ put_at name.now rel.now bases.now }
+    // The tables, where the one of that name has that relation.
+    pub(crate) fn new(tables: &'b Db, name: &'b Name, rel: &'b Rel<Row>) -> Put<'b>
+        requires { IsPut tables.now name.now rel.now }
+        ensures { result ≡ put_at name.now rel.now tables.now }
     {
-        Put { bases, name, rel }
+        Put { tables, name, rel }
     }
 
-    // Each base has a relation whose rows fit its columns.
+    // Each table has a relation whose rows fit its columns.
     pub(crate) fn rows_fit(&self)
         ensures held { (name : List ℕ) (columns : List Column) → schemas_of (known_of self.now) name ≡ Some columns →
             (rel : Relation) × (rows_of self.now name ≡ Some rel) × HaveKinds columns rel }
     {
-        self.bases.rows_fit();
+        self.tables.rows_fit();
     }
 }
 
@@ -56,12 +61,27 @@ impl Tables<Row> for Put<'_> {
     ghost named = { rows_of };
 
     fn rel(&self, name: &[u8]) -> Option<&Rel<Row>> {
-        let Some(own) = self.bases.rel(name) else {
+        let Some(own) = self.tables.rel(name) else {
             return None;
         };
         if self.name.bytes() == name {
             return Some(self.rel);
         }
         Some(own)
+    }
+}
+
+impl Narrowed for Put<'_> {
+    fn narrowed(
+        &self,
+        alloc: Global,
+        name: &Name,
+        sieve: &Sieve<'_>,
+    ) -> Result<Option<PartRows<'_>>, NoMemory> {
+        let _ = alloc;
+        let Some(rel) = self.rel(name.bytes()) else {
+            return Ok(None);
+        };
+        Ok(Some(PartRows::of(rel, sieve)?))
     }
 }

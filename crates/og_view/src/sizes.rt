@@ -1,24 +1,22 @@
 //! How many rows the answer of a query has at most.
-ghost use Rattle.std.specs.Prelude.{◌≡◌, ◌+◌, ◌-◌, ◌^◌, length, min, nat_le};
-ghost use Rattle.og_rel.specs.Relations.{others};
+ghost use Rattle.std.specs.Prelude.{◌≡◌, ◌-◌, ◌^◌, min};
 ghost use Rattle.og_query.specs.Sizes as spec;
 ghost use Rattle.og_exec.specs.Tables.{sizes_of};
 ghost use Rattle.og_db.specs.Held.{rows_of};
-ghost use Rattle.og_view.specs.Sieves.{row_passes};
+ghost use Rattle.og_db.specs.Deltas.{IsDelta, after_at};
 
-use crate::instead::Instead;
-use crate::sieve::Sieve;
+use crate::table_delta::TableDelta;
 use og_query::{Core, Query};
-use og_rel::{Rel, RowTest};
-use og_value::{Row, SetOp};
+use og_value::SetOp;
 
-// The size of the core over the bases, or the greatest number where it is more.
-fn core_size<T: RowTest<Row>>(core: &Core, bases: &Instead<'_, T>) -> usize
-    ensures { result ≡ min (spec.core_size (sizes_of (rows_of bases.now)) core.now) (2 ^ 64 - 1) }
+// The size of the core over what comes of the tables by a delta, or the greatest number where it is more.
+fn core_size(core: &Core, over: &TableDelta<'_>) -> usize
+    requires { IsDelta over.now.tables.now over.now.name.now over.now.delta.now }
+    ensures { result ≡ min (spec.core_size (sizes_of (rows_of (after_at over.now.name.now over.now.delta.now over.now.tables.now))) core.now) (2 ^ 64 - 1) }
 {
     let mut size: usize = 1;
     'tables: for table in core.tables.as_slice() {
-        size = size.saturating_mul(bases.rows_in(&table.name));
+        size = size.saturating_mul(over.len_after(&table.name));
     }
     size
 }
@@ -33,28 +31,14 @@ fn combined_size(op: SetOp, left: usize, right: usize) -> usize
     }
 }
 
-// The size of the query over the bases, or the greatest number where it is more.
-pub(crate) fn size_of<T: RowTest<Row>>(query: &Query, bases: &Instead<'_, T>) -> usize
-    ensures { result ≡ min (spec.query_size (sizes_of (rows_of bases.now)) query.now) (2 ^ 64 - 1) }
+// The size of the query over what comes of the tables by a delta, or the greatest number where it is more.
+pub(crate) fn size_of(query: &Query, over: &TableDelta<'_>) -> usize
+    requires { IsDelta over.now.tables.now over.now.name.now over.now.delta.now }
+    ensures { result ≡ min (spec.query_size (sizes_of (rows_of (after_at over.now.name.now over.now.delta.now over.now.tables.now))) query.now) (2 ^ 64 - 1) }
 {
-    let mut size = core_size(&query.first, bases);
+    let mut size = core_size(&query.first, over);
     'rests: for rest in query.rest.as_slice() {
-        size = combined_size(rest.op, size, core_size(&rest.core, bases));
+        size = combined_size(rest.op, size, core_size(&rest.core, over));
     }
     size
-}
-
-// Whether the rows that do not pass the sieve and so many more are no more than most.
-pub(crate) fn has_room(rel: &Rel<Row>, sieve: &Sieve<'_>, more: usize, most: usize) -> bool
-    ensures { result ≡ nat_le (length (others (row_passes sieve.now) rel.now) + more) most }
-{
-    if more > most {
-        return false;
-    }
-    let room = most - more;
-    // The others are counted only where all rows would be too many.
-    if rel.len() <= room {
-        return true;
-    }
-    rel.count_others(sieve) <= room
 }

@@ -14,6 +14,6 @@ returns-clause-done g c =
     let query = c.args.query.now in
     on_ok_weaker c.keep.result
     (λ done. subst (λ name. IsDone c.args.names.now c.keep.new.self (on_names (t.Keep name query, tt))) c.in_ok-copy.ensures
-    (done query c.in_ok-copy-2.ensures (λ d day. c.in_ok-rel.ensures.law d day ∙ ap (λ rows. ordinary_query d rows query) (rows_at-world c.found_names.ensures.rows d old))
-    (subst (λ most. length c.in_ok-rel.rel ≤ most) (ap (λ sizes. query_size sizes query) (sizes_of-names c.found_names.ensures.sizes old)) c.in_ok-rel.ensures.size)))
+    (done query c.in_ok-copy-2.ensures (λ d day. c.in_ok-rel.ensures.law d day ∙ ap (λ rows. ordinary_query d rows query) (rows_at-world d old))
+    (subst (λ most. length c.in_ok-rel.rel ≤ most) (ap (λ sizes. query_size sizes query) (sizes_of-names old)) c.in_ok-rel.ensures.size)))
     c.keep.ensures.done

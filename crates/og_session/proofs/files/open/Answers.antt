@@ -30,7 +30,7 @@ returns-in_ok-keep-in-Ok-clause-ends g c start contents whole before state =
     let laws : SavedFiles = record { one = c.one_saved_file.ensures; one_fault = c.one_fault_of_a_saved_file.ensures; no_fault = c.no_fault_of_a_saved_file.ensures } in
     open-done start contents whole c.args.number before c.args.names.now c.args.name c.args.file _ _ c.in_ok-read.ensures.names state laws c.bytes.result.now
     (subst (λ bytes. HasFile (g.F.Files.folder c.args.files.now) c.args.file (Some bytes)) (sym c.bytes.ensures) (present c.in_ok-read.field-0 _ _ _ c.if-eq.ensures c.in_ok-read.ensures.answer))
-    c.one_file_more.ensures.reopened c.one_file_more.ensures.opened c.in-Ok.saved.schema c.in-Ok.saved.rel c.keep.new.self tt c.in-Ok.ensures.file c.in_ok-keep-in-Ok.ensures.kept c.in_ok-keep-in-Ok.ensures.added
+    c.one_file_more.ensures.reopened c.one_file_more.ensures.opened c.in-Ok.saved.schema c.in-Ok.saved.rel c.keep.new.self tt c.in-Ok.ensures.file c.in_ok-keep-in-Ok.ensures.kept c.in_ok-keep-in-Ok.ensures.views
 
 pub returns-in-Err-clause-ends : goal.returns-in-Err-clause-ends
 returns-in-Err-clause-ends g c start contents whole before state =

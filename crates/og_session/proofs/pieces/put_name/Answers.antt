@@ -19,7 +19,7 @@ returns-in_default-clause-put g c files before world =
     let is_day = subst IsRefDay c.number.ensures.value c.number.ensures.range in
     let none : option_map (λ k. k.1) (known_of c.args.names.now.names c.args.name.now) ≡ None = sym c.schema.ensures ∙ ap option_copied c.in_default.is in
     let out = g.K.Sink.written c.args.out.now in
-    subst (Appends out out) (layout-unknown on (found c.args.names.now.names c.args.name.now) none ∙ piece-name c.found_names.ensures.rows c.args.names.now.names files before world c.args.name.now c.args.day is_day) (Appends-nil out)
+    subst (Appends out out) (layout-unknown on (found c.args.names.now.names c.args.name.now) none ∙ piece-name c.args.names.now.names files before world c.args.name.now c.args.day is_day) (Appends-nil out)
 
 pub returns-clause-put : goal.returns-clause-put
 returns-clause-put g c files before world =
@@ -29,7 +29,7 @@ returns-clause-put g c files before world =
     let held : rows_of c.args.names.now.names c.args.name.now ≡ Some c.in-Some-rel.rel.now = search rules in
     let piece =
     layout-found on (found c.args.names.now.names c.args.name.now) c.in-Some.schema.now c.in-Some-rel.rel.now known held
-    ∙ piece-name c.found_names.ensures.rows c.args.names.now.names files before world c.args.name.now c.args.day is_day in
+    ∙ piece-name c.args.names.now.names files before world c.args.name.now c.args.day is_day in
     subst (λ t. IsPut (g.K.Sink.written c.args.out.now) (g.K.Sink.written c.put_relation.new.out) t c.put_relation.result) piece c.put_relation.ensures.put
 
 pub returns-in_default-clause-grown : goal.returns-in_default-clause-grown

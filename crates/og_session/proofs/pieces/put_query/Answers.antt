@@ -12,7 +12,7 @@ pub returns-clause-put : goal.returns-clause-put
 returns-clause-put g c files before world =
     let is_day = subst IsRefDay c.number.ensures.value c.number.ensures.range in
     let rows = relation_at row_order row_at c.in_ok-rel.rel c.args.day in
-    let piece = piece-query c.found_names.ensures.rows c.args.names.now.names files before world c.args.query.now c.args.day rows is_day (c.in_ok-rel.ensures.law c.args.day is_day) in
+    let piece = piece-query c.args.names.now.names files before world c.args.query.now c.args.day rows is_day (c.in_ok-rel.ensures.law c.args.day is_day) in
     subst (λ t. IsPut (g.K.Sink.written c.args.out.now) (g.K.Sink.written c.put_relation.new.out) t c.put_relation.result) piece c.put_relation.ensures.put
 
 pub returns-in_err-rel-clause-grown : goal.returns-in_err-rel-clause-grown

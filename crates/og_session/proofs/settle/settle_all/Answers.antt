@@ -1,10 +1,11 @@
-use Rattle.std.proofs.Common.{◌≡◌, ◌<◌, ◌++◌, ◌-◌, [], ◌∷◌, ℕ, List, Some, length, rules, refl, ap, subst, sym, ◌∙◌, arith}
+use Rattle.std.proofs.Common.{◌≡◌, ◌<◌, ◌++◌, ◌-◌, [], ◌∷◌, ℕ, List, None, Some, length, rules, refl, ap, subst, sym, ◌∙◌, arith}
 use Rattle.std.specs.List.{IsDistinct}
 use Rattle.std.specs.Map.{keys_of}
 use Rattle.std.specs.Str.{bytes_eq}
 use Rattle.std.proofs.lemmas.List.{append-nil, append_assoc}
 use Rattle.std.proofs.lemmas.List.Elements.{recursion_from_All}
 use Rattle.og_value.specs.declared.kind.What.TheVariants as what
+use Rattle.og_db.specs.Database.{HaveKinds}
 use Rattle.og_db.specs.Held.{known_of}
 use Rattle.og_view.specs.Views.{Seen}
 use Rattle.og_session.specs.Following.{lasting, settle_one, settle_views}
@@ -33,8 +34,8 @@ settle_at-requires c =
     record {
       live = λ front back v parts place.
           let same : v ≡ last.1 = same_place c.views.views.entries front back last.0 (lasting name inv.1) v last.1 parts now (place ∙ sym at) in
-          subst (λ (u : List ℕ × Seen). known_of c.views.db u.0 ≡ Some (what.Live, u.1.query.first.schema)) (sym same)
-          (ap (λ d. known_of d last.1.0) inv.5 ∙ known_settled name last.1.0 inv.1 c.args.db.now apart ∙ live.known);
+          subst (λ (u : List ℕ × Seen). (known_of c.views.db u.0 ≡ Some (what.Live, u.1.query.first.schema)) × (u.1.next ≡ None) × HaveKinds u.1.query.first.schema u.1.result) (sym same)
+          (ap (λ d. known_of d last.1.0) inv.5 ∙ known_settled name last.1.0 inv.1 c.args.db.now apart ∙ live.known, live.settled, live.answer.kinds);
     }
 
 pub views-preserved : goal.views-preserved

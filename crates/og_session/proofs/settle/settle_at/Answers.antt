@@ -6,10 +6,16 @@ use Rattle.og_session.specs.Following.{view_ends}
 use Rattle.og_session.proofs.DropLemmas.{parts_at, settled_by, taken_out}
 use Rattle.og_session.proofs.settle.settle_at.Goals as goal
 
+pub into_rel-requires : goal.into_rel-requires
+into_rel-requires c =
+    let p = parts_at c.args.views.now.entries (c.in-Some.key, c.in-Some.view) c.args.at (sym c.in-Some.ensures.entry) in
+    (c.requires.live p.0 p.1 (c.in-Some.key, c.in-Some.view) p.2 p.3).1
+
 pub settle-requires : goal.settle-requires
 settle-requires c =
     let p = parts_at c.args.views.now.entries (c.in-Some.key, c.in-Some.view) c.args.at (sym c.in-Some.ensures.entry) in
-    (c.in-Some.view.query.first.schema, c.requires.live p.0 p.1 (c.in-Some.key, c.in-Some.view) p.2 p.3, subst (HaveKinds c.in-Some.view.query.first.schema) (sym c.into_rel.ensures) c.kept.ensures.kinds)
+    let live = c.requires.live p.0 p.1 (c.in-Some.key, c.in-Some.view) p.2 p.3 in
+    (c.in-Some.view.query.first.schema, live.0, subst (HaveKinds c.in-Some.view.query.first.schema) (sym c.into_rel.ensures) live.2)
 
 pub returns : goal.returns
 returns c front back v parts place =

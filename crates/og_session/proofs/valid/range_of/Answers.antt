@@ -19,4 +19,4 @@ returns c =
     let fit = c.rows_fit.ensures.held name columns c.requires.1 in
     let kinds = subst (HaveKinds columns) (same_Some fit.0 rel (sym fit.1 ∙ held)) fit.2 in
     IfOk-weaker c.layout_range.result _ _ (λ range l files before world.
-    range_is c.found_names.ensures.rows db name columns rel c.requires.1 held files before world day is_day range (l columns kinds)) c.layout_range.ensures
+    range_is db name columns rel c.requires.1 held files before world day is_day range (l columns kinds)) c.layout_range.ensures

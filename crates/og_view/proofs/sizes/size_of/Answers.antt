@@ -4,16 +4,17 @@ use Rattle.std.proofs.lemmas.List.Sums.{fold-append}
 use Rattle.og_query.specs.Sizes.{combined_size, core_size}
 use Rattle.og_query.specs.declared.query.Rest.{Rest}
 use Rattle.og_exec.specs.Tables.{sizes_of}
+use Rattle.og_db.specs.Deltas.{after_at}
 use Rattle.og_db.specs.Held.{rows_of}
 use Rattle.og_view.proofs.SizeLemmas.{combined-capped}
 use Rattle.og_view.proofs.sizes.size_of.Goals as goal
 
 pub rests-init : goal.rests-init
-rests-init g c = c.core_size-size.ensures
+rests-init c = c.core_size-size.ensures
 
 pub rests-preserved : goal.rests-preserved
-rests-preserved g c =
-    let sizes = sizes_of (rows_of c.args.bases.now) in
+rests-preserved c =
+    let sizes = sizes_of (rows_of (after_at c.args.over.now.name.now c.args.over.now.delta.now c.args.over.now.tables.now)) in
     let more : ℕ → Rest → ℕ = λ size rest. combined_size rest.op size (core_size sizes rest.core) in
     let items = c.as_slice-rest-items.result.now in
     let i = c.rests.rest-index in
@@ -28,8 +29,8 @@ rests-preserved g c =
     ∙ ap (λ n. min n (2 ^ 64 - 1)) (sym next)
 
 pub returns : goal.returns
-returns g c =
-    let sizes = sizes_of (rows_of c.args.bases.now) in
+returns c =
+    let sizes = sizes_of (rows_of (after_at c.args.over.now.name.now c.args.over.now.delta.now c.args.over.now.tables.now)) in
     c.rests.invariant
     ∙ ap (λ rests. min (fold (λ size rest. combined_size rest.op size (core_size sizes rest.core)) (core_size sizes c.args.query.now.first) rests) (2 ^ 64 - 1))
     (take_all c.rests.rest-index c.as_slice-rest-items.result.now c.rests-test.false ∙ c.as_slice-rest-items.ensures)

@@ -1,83 +1,53 @@
-use Rattle.std.proofs.Common.{◌≡◌, ◌∙◌, ap, refl, subst, sym}
-use Rattle.std.proofs.lemmas.List.Elements.{All-weaker}
-use Rattle.std.proofs.lemmas.Result.{on_err_weaker}
+use Rattle.std.proofs.Common.{◌≡◌, ◌∙◌, Err, ap, is_ok, refl, subst, sym}
+use Rattle.std.proofs.lemmas.Result.{on_err_weaker, on_ok_weaker}
 use Rattle.og_query.specs.Fits.{IsFit}
 use Rattle.og_db.specs.Effects.{on_names}
 use Rattle.og_db.specs.Held.{known_of}
-use Rattle.og_db.specs.Runs.{stored}
-use Rattle.og_view.specs.Views.{IsAnswered}
-use Rattle.og_session.specs.Following.{IsReady, changed_name}
-use Rattle.og_session.specs.Names.{AreLiveViews, IsDone, IsLiveView, watched, with_views}
-use Rattle.og_session.proofs.ChangeSteps.{change_done, change_fits, change_table_known, either_of_two, kept_views, live_or_table, on_ok_four}
-use Rattle.og_session.proofs.NameLemmas.{blank_names, known_of-shown, stored-shown}
+use Rattle.og_session.specs.Following.{ArePaired, IsEnded}
+use Rattle.og_session.specs.Names.{IsDone, watched}
+use Rattle.og_session.proofs.ChangeSteps.{IsOutcome, outcome_of}
+use Rattle.og_session.proofs.NameLemmas.{known_of-shown}
+use Rattle.og_session.proofs.names.Names.change.Given.{Over}
 use Rattle.og_session.proofs.names.Names.change.Goals as goal
+use Rattle.og_session.proofs.names.Names.change.Goals.{in-Ok, in-Err}
 
-pub follow-requires-clause-ready : goal.follow-requires-clause-ready
-follow-requires-clause-ready g c κs within =
+pub delta_of-requires-clause-fits : goal.delta_of-requires-clause-fits
+delta_of-requires-clause-fits g c =
     let db = c.self.inside.db in
-    let views = c.self.inside.views.entries in
-    let path : known_of c.args.self.now.names ≡ known_of db = λ i name. (sym (sym (known_of-shown views db name) ∙ ap (λ n. known_of n.names name) c.self.view_is)) i in
-    let fits : IsFit (known_of db) c.args.stmt = subst (λ k. IsFit k c.args.stmt) path c.requires.fits in
-    All-weaker (IsLiveView db) (λ v. IsReady c.args.stmt v.1)
-    (λ v live used. change_fits (known_of db) (known_of v.1.bases) c.args.stmt c.requires.change (live.bases (changed_name c.args.stmt) used) fits) views c.self.invariant
-
-pub follow-requires-clause-answered : goal.follow-requires-clause-answered
-follow-requires-clause-answered g c κs within = All-weaker (IsLiveView c.self.inside.db) (λ v. IsAnswered v.1) (λ v live. live.answered) c.self.inside.views.entries c.self.invariant
-
-pub invariant_of-self : goal.invariant_of-self
-invariant_of-self g c =
-    let db = c.self.inside.db in
-    kept_views db db (λ name. refl) (λ name columns is. refl) c.self.inside.views.entries c.follow.new.views.entries c.in-Err.ensures.kept c.self.invariant
-
-pub returns-in-Err-clause-refused : goal.returns-in-Err-clause-refused
-returns-in-Err-clause-refused g c =
-    let db = c.self.inside.db in
-    let views = c.self.inside.views.entries in
-    let now = c.follow.new.views.entries in
-    let all = kept_views db db (λ name. refl) (λ name columns is. refl) views now c.in-Err.ensures.kept c.self.invariant in
-    stored-shown now db (blank_names db c.names_differ.ensures now all) ∙ sym (stored-shown views db (blank_names db c.names_differ.ensures views c.self.invariant)) ∙ ap (λ n. stored n.names) c.self.view_is
-
-pub change_table-requires-clause-fits : goal.change_table-requires-clause-fits
-change_table-requires-clause-fits g c =
-    let db = c.self.inside.db in
-    let views = c.self.inside.views.entries in
-    let path : known_of c.args.self.now.names ≡ known_of db = λ i name. (sym (sym (known_of-shown views db name) ∙ ap (λ n. known_of n.names name) c.self.view_is)) i in
+    let path : known_of c.args.self.now.names ≡ known_of db = λ i name. (sym (sym (known_of-shown c.self.inside.views.entries db name) ∙ ap (λ n. known_of n.names name) c.self.view_is)) i in
     subst (λ k. IsFit k c.args.stmt) path c.requires.fits
 
-pub invariant_of-self-2 : goal.invariant_of-self-2
-invariant_of-self-2 g c =
+-- what is held at the end
+outcome : (g : Over) (c : goal.After-drop-name-inside g)
+    → IsOutcome c.self.inside.db c.self.inside.views.entries c.in_ok-name.name c.in_ok-name.delta c.match-follow.self-inside.db c.end.new.views.entries c.match-follow.done
+outcome g c =
     let db = c.self.inside.db in
     let views = c.self.inside.views.entries in
-    let now = c.follow.new.views.entries in
-    let path : known_of c.args.self.now.names ≡ known_of db = λ i name. (sym (sym (known_of-shown views db name) ∙ ap (λ n. known_of n.names name) c.self.view_is)) i in
-    let table = change_table_known (known_of db) c.args.stmt c.requires.change (subst (λ k. IsFit k c.args.stmt) path c.requires.fits) in
-    either_of_two c.change_table.result c.change_table.ensures.known c.change_table.ensures.others c.change_table.ensures.refused
-    (λ known others.
-    kept_views db c.change_table.new.db known (λ name columns is. others name (λ e. live_or_table columns table.0 (sym is ∙ ap (known_of db) e ∙ table.1)))
-    views now c.in_default.ensures.kept c.self.invariant)
-    (λ same. subst (λ d. AreLiveViews d now) (sym same) (kept_views db db (λ name. refl) (λ name columns is. refl) views now c.in_default.ensures.kept c.self.invariant))
+    let name = c.in_ok-name.name in
+    let delta = c.in_ok-name.delta in
+    let mid = c.follow.new.views.entries in
+    let now = c.end.new.views.entries in
+    let done = c.match-follow.done in
+    let ended = subst (λ b. ArePaired (IsEnded b) c.match-follow.self-inside.views.entries now) c.is_ok.ensures.value c.end.ensures in
+    elim c.match-follow.branch [
+      | in-Ok w ↦ subst (λ s. IsOutcome db views name delta s.db now done) (sym w.self-inside-is)
+          (subst (IsOutcome db views name delta w.apply-done.new.self now) (sym w.done-is)
+          (outcome_of db views c.self.invariant c.names_differ.ensures name delta c.in_ok-name.ensures.delta w.apply-done.new.self mid now w.apply-done.result
+          (on_ok_weaker w.apply-done.result (λ applied. (w.in-Ok.ensures.followed, applied)) w.apply-done.ensures.applied) w.apply-done.ensures.refused
+          w.in-Ok.ensures.same (subst (λ r. ArePaired (IsEnded (is_ok r)) mid now) w.done-is (subst (λ s. ArePaired (IsEnded (is_ok done)) s.views.entries now) w.self-inside-is ended))))
+      | in-Err w ↦ subst (λ s. IsOutcome db views name delta s.db now done) (sym w.self-inside-is)
+          (subst (IsOutcome db views name delta db now) (sym w.done-is)
+          (outcome_of db views c.self.invariant c.names_differ.ensures name delta c.in_ok-name.ensures.delta db mid now (Err w.in-Err.refusal) tt refl
+          w.in-Err.ensures.same (subst (λ r. ArePaired (IsEnded (is_ok r)) mid now) w.done-is (subst (λ s. ArePaired (IsEnded (is_ok done)) s.views.entries now) w.self-inside-is ended))))
+    ]
+
+pub invariant_of-self : goal.invariant_of-self
+invariant_of-self g c = (outcome g c).live
 
 pub returns-clause-done : goal.returns-clause-done
 returns-clause-done g c =
-    let db = c.self.inside.db in
-    let views = c.self.inside.views.entries in
-    let now = c.follow.new.views.entries in
-    let path : known_of c.args.self.now.names ≡ known_of db = λ i name. (sym (sym (known_of-shown views db name) ∙ ap (λ n. known_of n.names name) c.self.view_is)) i in
-    let table = change_table_known (known_of db) c.args.stmt c.requires.change (subst (λ k. IsFit k c.args.stmt) path c.requires.fits) in
-    on_ok_four c.change_table.result c.change_table.ensures.law c.change_table.ensures.size c.change_table.ensures.known c.change_table.ensures.others
-    (λ law size known others of.
-    subst (λ n. IsDone n (watched c.change_table.new.db now) (on_names (c.args.stmt, of))) c.self.view_is
-    (change_done db views c.self.invariant c.names_differ.ensures (c.args.stmt, of) c.requires.change c.change_table.new.db now
-    (kept_views db c.change_table.new.db known (λ name columns is. others name (λ e. live_or_table columns table.0 (sym is ∙ ap (known_of db) e ∙ table.1)))
-    views now c.in_default.ensures.kept c.self.invariant) c.in_default.ensures.followed (law of) (size of)))
+    let new = watched c.match-follow.self-inside.db c.end.new.views.entries in
+    on_ok_weaker c.match-follow.done (λ done of. subst (λ n. IsDone n new (on_names (c.args.stmt, of))) c.self.view_is (done (c.args.stmt, of) c.requires.change (c.in_ok-name.ensures.does of))) (outcome g c).done
 
 pub returns-clause-refused : goal.returns-clause-refused
-returns-clause-refused g c =
-    let db = c.self.inside.db in
-    let views = c.self.inside.views.entries in
-    let now = c.follow.new.views.entries in
-    let all = kept_views db db (λ name. refl) (λ name columns is. refl) views now c.in_default.ensures.kept c.self.invariant in
-    on_err_weaker c.change_table.result
-    (λ same. ap (λ d. stored (with_views now d)) same ∙ stored-shown now db (blank_names db c.names_differ.ensures now all)
-    ∙ sym (stored-shown views db (blank_names db c.names_differ.ensures views c.self.invariant)) ∙ ap (λ n. stored n.names) c.self.view_is)
-    c.change_table.ensures.refused
+returns-clause-refused g c = on_err_weaker c.match-follow.done (λ same. same ∙ c.self.view_is) (outcome g c).refused

@@ -14,9 +14,11 @@ use Rattle.og_query.specs.declared.typed.Typed.TheVariants as t
 use Rattle.og_db.specs.Effects.{on_names}
 use Rattle.og_db.specs.Held.{known_of}
 use Rattle.og_db.proofs.EntryLemmas.{either_way}
-use Rattle.og_session.specs.Names.{AreLiveViews, IsAdded, IsDone, watched, with_views}
+use Rattle.og_session.specs.Names.{AreLiveViews, IsDone, watched, with_views}
+use Rattle.og_session.proofs.LiveViews.{live_push, unwatched}
+use Rattle.og_session.proofs.LiveWorlds.{is_live}
 use Rattle.og_session.proofs.NameLemmas.{known_of-shown, shown-push}
-use Rattle.og_session.proofs.NameSteps.{added_running, keep_done, live_push, new_unwatched}
+use Rattle.og_session.proofs.NameSteps.{keep_done}
 use Rattle.og_session.proofs.names.Names.keep.Goals as goal
 
 pub keep-requires-clause-new : goal.keep-requires-clause-new
@@ -27,7 +29,7 @@ pub invariant_of-self : goal.invariant_of-self
 invariant_of-self c =
     let views = c.self.inside.views.entries in
     either_way c.keep.result c.keep.ensures.kept c.keep.ensures.refused
-    (λ e. subst (λ db. AreLiveViews db views) (sym e) (live_push c.self.inside.db _ views c.self.invariant))
+    (λ e. subst (λ db. AreLiveViews db views) (sym e) (live_push c.self.inside.db views c.self.invariant _))
     (λ e. subst (λ db. AreLiveViews db views) (sym e) c.self.invariant)
 
 pub returns-clause-kept : goal.returns-clause-kept
@@ -36,7 +38,7 @@ returns-clause-kept c =
     let db = c.self.inside.db in
     let is_new : known_of db c.args.name ≡ None = sym (known_of-shown views db c.args.name) ∙ ap (λ n. known_of n.names c.args.name) c.self.view_is ∙ c.requires.new in
     on_ok_weaker c.keep.result
-    (λ e. ap (with_views views) e ∙ shown-push views db (record { name = c.args.name; what = what.Kept; columns = c.args.schema; rows = c.args.rel }) (new_unwatched db views c.args.name c.self.invariant is_new)
+    (λ e. ap (with_views views) e ∙ shown-push views db (record { name = c.args.name; what = what.Kept; columns = c.args.schema; rows = c.args.rel }) (unwatched db views c.self.invariant c.args.name (ap is_live is_new))
     ∙ ap (λ n. n.names ++ record { name = c.args.name; what = what.Kept; columns = c.args.schema; rows = c.args.rel } ∷ []) c.self.view_is)
     c.keep.ensures.kept
 
@@ -44,21 +46,13 @@ pub returns-clause-done : goal.returns-clause-done
 returns-clause-done c =
     let views = c.self.inside.views.entries in
     let db = c.self.inside.db in
-    let is_new : known_of db c.args.name ≡ None = sym (known_of-shown views db c.args.name) ∙ ap (λ n. known_of n.names c.args.name) c.self.view_is ∙ c.requires.new in
     on_ok_weaker c.keep.result
     (λ e query columns rows size. subst (λ n. IsDone n (watched c.keep.new.self views) (on_names (t.Keep c.args.name query, tt))) c.self.view_is
     (subst (λ d. IsDone (watched db views) (watched d views) (on_names (t.Keep c.args.name query, tt))) (sym e)
-    (keep_done db views c.self.invariant c.names_differ.ensures c.args.name c.args.schema c.args.rel query is_new columns
+    (keep_done db views c.self.invariant c.names_differ.ensures c.args.name c.args.schema c.args.rel query columns
     (subst (λ n. (d : ℤ) → IsRefDay d → relation_at row_order row_at c.args.rel d ≡ ordinary_query d (named_rows (names_at d n.names)) query) (sym c.self.view_is) rows)
     (subst (λ n. length c.args.rel ≤ query_size (named_sizes (sizes_at n.names)) query) (sym c.self.view_is) size))))
     c.keep.ensures.kept
 
-pub returns-clause-added : goal.returns-clause-added
-returns-clause-added c =
-    let views = c.self.inside.views.entries in
-    let db = c.self.inside.db in
-    on_ok_weaker c.keep.result
-    (λ e. subst (λ n. IsAdded n (watched c.keep.new.self views)) c.self.view_is
-    (subst (λ d. IsAdded (watched db views) (watched d views)) (sym e)
-    (added_running db views c.self.invariant (record { name = c.args.name; what = what.Kept; columns = c.args.schema; rows = c.args.rel }) (new_unwatched db views c.args.name c.self.invariant (sym (known_of-shown views db c.args.name) ∙ ap (λ n. known_of n.names c.args.name) c.self.view_is ∙ c.requires.new)))))
-    c.keep.ensures.kept
+pub returns-clause-views : goal.returns-clause-views
+returns-clause-views c = on_ok_weaker c.keep.result (λ e. ap (λ n. n.views) c.self.view_is) c.keep.ensures.kept

@@ -1,7 +1,7 @@
 use Rattle.std.proofs.Common.{subst}
 use Rattle.og_session.specs.Answers.{AreHeld}
 use Rattle.og_db.specs.Held.{known_of, rows_of}
-use Rattle.og_session.proofs.Running.{names_held}
+use Rattle.og_session.proofs.LiveViews.{names_held}
 use Rattle.og_session.proofs.names.Names.rows_fit.Goals as goal
 
 pub returns : goal.returns

@@ -3,6 +3,7 @@ use Rattle.std.specs.Map.{lookup}
 use Rattle.std.specs.Option.{option_map}
 use Rattle.std.specs.Str.{bytes_eq}
 use Rattle.og_db.specs.Held.{rows_of}
+use Rattle.og_session.proofs.LiveViews.{found_view}
 use Rattle.og_session.proofs.NameLemmas.{rows_of-none, rows_of-plain, rows_of-some}
 use Rattle.og_session.proofs.names.NamesTablesRow.rel.Goals as goal
 
@@ -10,6 +11,9 @@ pub returns-in_default : goal.returns-in_default
 returns-in_default c =
     let none : rows_of c.self.inside.db c.args.name.now ≡ None = sym c.rel.ensures ∙ ap (option_map (λ r. r.now)) c.in_default.is in
     sym (rows_of-none c.self.inside.views.entries c.self.inside.db c.args.name.now none) ∙ ap (λ n. rows_of n.names c.args.name.now) c.self.view_is
+
+pub rel-requires-in-Some-get : goal.rel-requires-in-Some-get
+rel-requires-in-Some-get c = (found_view c.self.inside.db c.self.inside.views.entries c.self.invariant c.args.name.now c.in-Some-get.view.now (sym c.in-Some-get.ensures.value)).settled
 
 pub returns-in-Some-get : goal.returns-in-Some-get
 returns-in-Some-get c =

@@ -11,16 +11,15 @@ use Rattle.og_query.specs.Fits.{IsFitQuery}
 use Rattle.og_query.specs.Queries.{ordinary_query}
 use Rattle.og_query.proofs.QueryLemmas.{rows_ordered}
 use Rattle.og_exec.specs.Tables.{rows_at, rows_on, rows_or_none}
-use Rattle.og_view.specs.Bases.{AreHeld}
+use Rattle.og_view.specs.Tables.{AreHeld}
 use Rattle.og_view.specs.Parts.{AreParts, beside_at, part_rels, width_of}
 use Rattle.og_view.specs.Placed.{more_lists, place_schemas, placed_query}
 use Rattle.og_view.specs.Rows.{rows_over}
-use Rattle.og_view.specs.Sieves.{passes, tests_from}
-use Rattle.og_view.proofs.MoreLemmas.{no_rows_at_place, no_rows_of_none, nothing_added, places_there, rows_at_place}
+use Rattle.og_reduce.specs.Sieves.{passes, tests_from}
+use Rattle.og_view.proofs.MoreLemmas.{no_rows, no_rows_at_place, no_rows_of_none, nothing_added, places_there, rows_at_place}
 use Rattle.og_view.proofs.PartLemmas.{each_on_day, parts_held, rows_beside, rows_of_parts, there_widths, whole_rows, widths}
 use Rattle.og_view.proofs.NarrowedLemmas.{HaveWidths}
 use Rattle.og_view.proofs.PlacedLemmas.{beside_here, placed_fits}
-use Rattle.og_view.proofs.TakenLemmas.{no_rows}
 use Rattle.og_view.proofs.placed.Placed.add_at.Goals.{then-len-eq0-via-then-len-eq0, then-len-eq0-via-else-len-eq0+then-ne}
 use Rattle.og_view.proofs.placed.Placed.add_at.Goals as goal
 

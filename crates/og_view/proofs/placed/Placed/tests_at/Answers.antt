@@ -2,7 +2,7 @@ use Rattle.std.proofs.Common.{ap, take, ◌∙◌}
 use Rattle.std.proofs.lemmas.Result.{IfOk-weaker}
 use Rattle.og_query.specs.Conditions.{truth}
 use Rattle.og_view.specs.Parts.{width_of}
-use Rattle.og_view.specs.Sieves.{passes, tests_from}
+use Rattle.og_reduce.specs.Sieves.{passes, tests_from}
 use Rattle.og_view.proofs.placed.Placed.tests_at.Goals as goal
 
 pub returns-in_ok-tests-in-Some : goal.returns-in_ok-tests-in-Some

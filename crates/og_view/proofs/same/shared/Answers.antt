@@ -1,6 +1,0 @@
-use Rattle.std.proofs.Common.{ap, ◌∙◌}
-use Rattle.og_view.specs.Sieves.{passes}
-use Rattle.og_view.proofs.same.shared.Goals as goal
-
-pub returns : goal.returns
-returns c d row holds passing = ap (λ tests. passes tests row) c.new.ensures ∙ c.others.invariant d row holds passing
