@@ -1,16 +1,13 @@
 -- Changes in place: only the rows that a condition may touch go through a change, and what comes of them stands in their place.
-use Rattle.std.proofs.Common.{◌≡◌, ◌++◌, ◌≤◌, ◌+◌, ◌*◌, ◌||◌, ◌&&◌, ℕ, ℤ, Bool, true, false, not, List, Some, length, filter, map, if◌then◌else◌, Ordering, refl, sym, ap, ap₂, ◌∙◌, subst, arith}
-use Rattle.std.specs.List.{IsDistinct, list_any}
-use Rattle.std.specs.Str.{bytes_eq}
-use Rattle.std.proofs.lemmas.List.{length-append}
-use Rattle.std.proofs.lemmas.List.Filters.{length-filter_both}
-use Rattle.std.proofs.lemmas.List.Elements.{All-append, All-filter}
+use Rattle.std.proofs.Common.{◌≡◌, ◌++◌, ◌||◌, ◌&&◌, ℤ, Bool, true, false, not, List, filter, Ordering, refl, sym, ap, ap₂, ◌∙◌}
+use Rattle.std.specs.List.{list_any}
+use Rattle.std.proofs.lemmas.List.Elements.{All-filter}
 use Rattle.std.proofs.lemmas.List.Folds.{list_any-append}
 use Rattle.og_base.specs.Calendar.{IsRefDay}
 use Rattle.og_base.specs.Ranges.{Range, holds_day}
 use Rattle.og_base.specs.Set.{IsExactOrder, set_of}
 use Rattle.og_base.proofs.SetLemmas.{filter-set_of, set_of-set_of}
-use Rattle.og_base.proofs.SetMembers.{list_any-filter, list_any-set_of_map}
+use Rattle.og_base.proofs.SetMembers.{list_any-filter}
 use Rattle.og_value.specs.Order.{row_order}
 use Rattle.og_value.specs.Values.{row_at}
 use Rattle.og_value.specs.declared.schema.Column.{Column}
@@ -22,15 +19,8 @@ use Rattle.og_query.specs.Conditions.{truth}
 use Rattle.og_query.specs.Fits.{IsFitRow}
 use Rattle.og_query.specs.Queries.{Fixed}
 use Rattle.og_query.specs.declared.condition.Cond.{Cond}
-use Rattle.og_query.specs.declared.typed.Assign.{Assign}
-use Rattle.og_query.specs.declared.typed.Typed.TheVariants as t
 use Rattle.og_query.proofs.QueryLemmas.{rows_ordered}
-use Rattle.og_db.specs.Database.{HaveKinds, Relation, names_at}
-use Rattle.og_db.specs.Held.{Held, changed_at, rows_of}
-use Rattle.og_db.specs.Runs.{AreWithin, sizes_at}
-use Rattle.og_db.specs.Statements.{assigned, names_after, name_sizes_after}
-use Rattle.og_db.proofs.SizeLemmas.{within-made_to}
-use Rattle.og_db.proofs.WorldLemmas.{changed_same, made_of-changed_to, put_at-made}
+use Rattle.og_db.specs.Database.{HaveKinds, Relation}
 
 module _ {R F : Type 0} {cmp : F → F → Ordering} (o : IsExactOrder cmp) (at : R → ℤ → F) (touch : R → Bool) (d : ℤ) (rel : List (R × List Range)) where
   -- a test of the touched rows on the day

@@ -2,26 +2,25 @@
 use Rattle.std.proofs.Common.{◌≡◌, ◌++◌, ◌≤◌, ◌+◌, ◌*◌, ◌||◌, ◌&&◌, ℕ, ℤ, Bool, true, false, not, List, [], ◌∷◌, Some, length, filter, map, if◌then◌else◌, refl, sym, ap, ap₂, ◌∙◌, subst, arith}
 use Rattle.std.specs.List.{IsDistinct, list_any}
 use Rattle.std.specs.Str.{bytes_eq}
-use Rattle.std.proofs.lemmas.List.{append-nil, length-append, length-map}
+use Rattle.std.proofs.lemmas.List.{append-nil, length-append}
 use Rattle.std.proofs.lemmas.List.Filters.{length-filter_both}
 use Rattle.std.proofs.lemmas.List.Folds.{list_any-append}
 use Rattle.std.specs.List.Sorted.{IsPermutation}
 use Rattle.std.proofs.lemmas.List.Elements.{All-append}
 use Rattle.std.proofs.lemmas.List.Sorted.{All-permutation, IsPermutation-sym, length_permutation}
 use Rattle.og_base.specs.Calendar.{IsRefDay}
-use Rattle.og_base.specs.Ranges.{Range}
 use Rattle.og_base.specs.Set.{set_of}
 use Rattle.og_base.proofs.SetMembers.{list_any-filter, list_any-map, list_any-set_of}
 use Rattle.og_value.specs.Order.{row_order}
 use Rattle.og_value.specs.Values.{row_at}
 use Rattle.og_value.specs.declared.schema.Column.{Column}
 use Rattle.og_value.specs.declared.value.Value.{Value}
-use Rattle.og_rel.specs.Relations.{instead, others, passing, relation_at}
+use Rattle.og_rel.specs.Relations.{passing, relation_at}
 use Rattle.og_rel.proofs.AlgebraLemmas.{any_of_either, same_set_by_tests}
 use Rattle.og_rel.proofs.PermutationLemmas.{relation_at-permutation}
 use Rattle.og_rel.proofs.PresentLemmas.{relation_at-append}
-use Rattle.og_reduce.specs.Places.{ArePlaces, others_at, places}
-use Rattle.og_reduce.proofs.PlaceLemmas.{All-others, length-others, others-none, others-places, places-are}
+use Rattle.og_rel.specs.Places.{ArePlaces, others_at, places}
+use Rattle.og_rel.proofs.PlaceLemmas.{All-others, length-others, others-none, others-places, places-are}
 use Rattle.og_query.specs.Conditions.{truth}
 use Rattle.og_query.specs.Fits.{IsFitRow}
 use Rattle.og_query.specs.Queries.{Fixed}
@@ -30,11 +29,11 @@ use Rattle.og_query.specs.declared.typed.Assign.{Assign}
 use Rattle.og_query.specs.declared.typed.Typed.TheVariants as t
 use Rattle.og_query.proofs.QueryLemmas.{rows_ordered}
 use Rattle.og_db.specs.Database.{HaveKinds, Relation, names_at}
-use Rattle.og_db.specs.Deltas.{DoesStatement, IsAlike, IsApplied, IsDeltaOf, TakesOut, rest_of, rows_after}
+use Rattle.og_db.specs.Deltas.{DoesStatement, IsApplied, IsDeltaOf, TakesOut, rest_of, rows_after}
 use Rattle.og_db.specs.Held.{Held, changed_at, rows_of}
 use Rattle.og_db.specs.Insertion.{on_all_days}
 use Rattle.og_db.specs.Runs.{AreWithin, sizes_at}
-use Rattle.og_db.specs.Statements.{OfNames, assigned, names_after, name_sizes_after}
+use Rattle.og_db.specs.Statements.{assigned}
 use Rattle.og_db.specs.declared.delta.Delta.{Delta}
 use Rattle.og_db.proofs.ChangeLemmas.{gone-touched, left-instead}
 use Rattle.og_db.proofs.SizeLemmas.{within-made_to}

@@ -1,5 +1,5 @@
 -- The entries that the code holds, and the names that contracts see of them.
-use Rattle.std.proofs.Common.{◌≡◌, ◌++◌, ℕ, zero, suc, Bool, true, false, cond, not, List, [], ◌∷◌, Option, Some, None, map, filter, position, Result, Ok, Err, OnOk, OnErr, is_some, if◌then◌else◌, refl, sym, ap, ◌∙◌, subst, true≢false}
+use Rattle.std.proofs.Common.{◌≡◌, slice_get, ◌++◌, ℕ, zero, suc, Bool, true, false, cond, not, List, [], ◌∷◌, Option, Some, None, map, filter, position, Result, Ok, Err, OnOk, OnErr, is_some, if◌then◌else◌, refl, sym, ap, ◌∙◌, subst, true≢false}
 use Rattle.std.specs.Cmp.Lexicographic.{same_text}
 use Rattle.std.specs.List.{All, AllByRecursion, IsDistinct}
 use Rattle.std.specs.Map.{lookup, keys_of, remove_entry}
@@ -7,6 +7,7 @@ use Rattle.std.specs.Option.{IfSome, option_map}
 use Rattle.std.specs.Str.{bytes_eq}
 use Rattle.std.proofs.lemmas.List.Elements.{All-append, All-from_recursion, recursion_from_All}
 use Rattle.std.proofs.lemmas.Map.Entries.{All-lookup}
+use Rattle.std.proofs.lemmas.Option.{same_Some}
 use Rattle.std.proofs.lemmas.Map.Keys.{IsDistinct-head, IsDistinct-tail}
 use Rattle.indexmap.specs.IndexMap.{insert_entry, set_value_at}
 use Rattle.indexmap.proofs.MapLemmas.{Found-position, insert_entry-first, some_index}
@@ -173,6 +174,15 @@ module _ (name : List ℕ) (db : List (Held Relation)) (es : List Entry) (seen :
   pub with_kept : (rel : Relation) → IsDistinct bytes_eq (keys_of es) → map held_of (set_value_at es i (record { what = what.Kept; schema = old.schema; rel = rel })) ≡ kept_at name rel db
   with_kept rel apart =
       changed-entries name (kept_with rel) old (record { what = what.Kept; schema = old.schema; rel = rel }) (λ n. refl) es i at is apart ∙ ap (kept_at name rel) seen
+
+-- the holding that stands at a place, with its own relation put there again
+pub with_own_relation : (es : List Entry) (i : ℕ) (h : Holding) (rel : Relation) → slice_get (map (λ e. e.1) es) i ≡ Some h → rel ≡ h.rel
+    → set_value_at es i (record { what = h.what; schema = h.schema; rel = rel }) ≡ es
+with_own_relation [] i h rel there same = refl
+with_own_relation (e ∷ es) zero h rel there same =
+    let own : record { what = h.what; schema = h.schema; rel = rel } ≡ h = λ j. record { what = h.what; schema = h.schema; rel = same j } in
+    ap (λ w. (e.0, w) ∷ es) (own ∙ sym (same_Some e.1 h there))
+with_own_relation (e ∷ es) (suc i) h rel there same = ap (λ l. e ∷ l) (with_own_relation es i h rel there same)
 
 -- entries that are taken out for what they are
 pub stored-entries : (es : List Entry) → map held_of (filter (λ e. is_stored e.1.what) es) ≡ stored (map held_of es)

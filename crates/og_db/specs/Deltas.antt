@@ -7,7 +7,7 @@ use Rattle.og_value.specs.Order.{row_order}
 use Rattle.og_value.specs.Values.{row_at}
 use Rattle.og_value.specs.declared.schema.Column.{Column}
 use Rattle.og_rel.specs.Relations.{relation_at}
-use Rattle.og_reduce.specs.Places.{ArePlaces, others_at}
+use Rattle.og_rel.specs.Places.{ArePlaces, others_at}
 use Rattle.og_query.specs.Conditions.{truth}
 use Rattle.og_query.specs.Queries.{Fixed}
 use Rattle.og_query.specs.declared.condition.Cond.{Cond}

@@ -111,9 +111,10 @@ impl Db {
         let Some(at) = self.names.get_index_of(name) else {
             unreachable!();
         };
+        let alloc = *self.names.allocator();
         let held = &mut self.names[at];
         held.what = What::Kept;
-        held.rel = Stored::bare(rel);
+        held.rel = Stored::bare(alloc, rel);
     }
 
     /// Takes all live results out. The others keep their order. Takes no memory.
@@ -169,8 +170,20 @@ impl Db {
         }
     }
 
-    /// Puts a delta into its table: what is left of the touched rows and what is new stands behind the others.
-    /// No other row is moved or copied. Refused only for want of memory, and then nothing has changed.
+    /// Keeps beside the rows of the name at that place, counted from 0, the numbers of their columns, by which a
+    /// change looks up rows. Takes memory where there is some.
+    pub fn keep_columns(&mut self, i: usize)
+        requires { i < length self.old }
+        ensures { self.new ≡ self.old }
+    {
+        let alloc = *self.names.allocator();
+        let held = &mut self.names[i];
+        held.rel.keep_columns(alloc, held.schema.len());
+    }
+
+    /// Puts a delta into its table: what is left of the touched rows and what is new comes where those stood, in
+    /// order, and behind the others where there is more. Refused only for want of memory, and then nothing has
+    /// changed.
     pub fn apply(&mut self, name: &Name, delta: Delta) -> Result<(), NoMemory>
         requires { IsDelta self.old name.now delta }
         ensures applied { OnOk result (IsApplied name.now delta self.old self.new) }

@@ -1,7 +1,7 @@
 //! What a statement makes of the rows of a table.
 ghost use Rattle.std.specs.Prelude.{◌++◌, OnOk, OnErr, length};
 ghost use Rattle.std.specs.List.Sorted.{IsPermutation};
-ghost use Rattle.og_reduce.specs.Places.{ArePlaces};
+ghost use Rattle.og_rel.specs.Places.{ArePlaces};
 ghost use Rattle.og_db.specs.Deltas.{rows_after};
 ghost use Rattle.std.specs.Prelude.{◌≡◌};
 
@@ -23,8 +23,8 @@ pub struct Delta {
     pub added: Rel<Row>,
 }
 
-// Puts a delta into the rows: what is left of the touched rows and what is new stands behind the others, and
-// the last rows stand where touched ones stood. No other row is moved or copied.
+// Puts a delta into the rows: what is left of the touched rows and what is new comes to their places, in order, and
+// stands behind the others where there is more; where there is less, the others close up.
 pub(crate) fn apply(rows: &mut Stored, delta: Delta) -> Result<(), NoMemory>
     requires { ArePlaces delta.at.items (length rows.old) }
     ensures applied { OnOk result (IsPermutation rows.new (rows_after delta rows.old)) }
@@ -32,7 +32,10 @@ pub(crate) fn apply(rows: &mut Stored, delta: Delta) -> Result<(), NoMemory>
 {
     let mut more = delta.left;
     more.append(delta.added)?;
+    let came = more.len();
+    // Those that come to the places are taken from the end.
+    more.rotate_left(delta.at.len().min(came));
     rows.append(more)?;
-    rows.take_out(delta.at.as_slice());
+    rows.take_out(delta.at.as_slice(), came);
     Ok(())
 }

@@ -3,7 +3,7 @@ ghost use Rattle.std.specs.Prelude.{◌≡◌};
 
 use og_expr::RowBounds;
 use og_query::Cond;
-use og_reduce::HeadTest;
+use og_reduce::NumberTest;
 use og_rel::RowTest;
 use og_value::Row;
 use std::alloc::Global;
@@ -49,8 +49,12 @@ impl RowTest<Row> for Touched<'_> {
     }
 }
 
-impl HeadTest for Touched<'_> {
-    fn may_begin(&self, first: &i64) -> bool {
-        self.bounds.may_begin(first)
+impl NumberTest for Touched<'_> {
+    fn column(&self) -> Option<usize> {
+        self.bounds.column()
+    }
+
+    fn may_have(&self, column: usize, number: &i64) -> bool {
+        self.bounds.may_have(column, number)
     }
 }

@@ -44,11 +44,11 @@ impl ColumnTest {
         }
     }
 
-    // Whether a row may pass that begins with the number.
-    pub(crate) fn may_begin(&self, first: &i64) -> bool
-        ensures { IsFalse result → (row : List AnyValue) → number_at row 0 ≡ Some first.now → may_pass self.now row ≡ false }
+    // Whether a row may pass that has the number in the column.
+    pub(crate) fn may_have(&self, column: usize, number: &i64) -> bool
+        ensures { IsFalse result → (row : List AnyValue) → number_at row column ≡ Some number.now → may_pass self.now row ≡ false }
     {
-        self.column != 0 || self.has(*first)
+        self.column != column || self.has(*number)
     }
 
     // This test and another one at once, where they are of one column, and else this one.

@@ -66,12 +66,21 @@ impl<'c> RowBounds<'c> {
         self.all_may_hold(row)
     }
 
-    /// Whether the condition may hold of a row that begins with the number. Takes no memory.
-    pub fn may_begin(&self, first: &i64) -> bool
-        ensures { IsFalse result → (row : List values.Value) → number_at row 0 ≡ Some first.now → meant.may_hold row self.now ≡ false }
+    /// The column by whose number most rows are told, where the condition compares one with a number. Nothing else
+    /// rests on which it is. Takes no memory.
+    pub fn column(&self) -> Option<usize> {
+        match &self.first {
+            Some(test) => Some(test.column),
+            None => None,
+        }
+    }
+
+    /// Whether the condition may hold of a row that has the number in the column. Takes no memory.
+    pub fn may_have(&self, column: usize, number: &i64) -> bool
+        ensures { IsFalse result → (row : List values.Value) → number_at row column ≡ Some number.now → meant.may_hold row self.now ≡ false }
     {
         match &self.first {
-            Some(test) => test.may_begin(first),
+            Some(test) => test.may_have(column, number),
             None => true,
         }
     }

@@ -1,7 +1,6 @@
-pub mod FirstLemmas
+pub mod ColumnLemmas
 pub mod FoundLemmas
 pub mod NumberLemmas
-pub mod PlaceLemmas
 pub mod RemovedLemmas
 pub mod SameLemmas
 pub mod SieveLemmas

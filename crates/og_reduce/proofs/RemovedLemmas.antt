@@ -1,137 +1,118 @@
--- Lists of which elements are taken out from the last on, where the last element comes to the place of one that is taken out.
-use Rattle.std.proofs.Common.{◌≡◌, ◌++◌, ◌+◌, ◌-◌, ◌<◌, ◌≤◌, ℕ, zero, suc, List, [], ◌∷◌, length, get_or, set, take, drop, refl, sym, ap, subst, ◌∙◌, arith}
-use Rattle.std.specs.Prelude.{swap_remove}
+-- Lists of which the last elements come to places, in the order of these, where those go that stood there.
+use Rattle.std.proofs.Common.{◌≡◌, ◌++◌, ◌+◌, ◌<◌, ◌≤◌, ℕ, suc, List, [], ◌∷◌, length, get_or, set, swap, take, drop, refl, sym, ap, ap₂, subst, append-nil, ◌∙◌, arith}
+use lib.Seq.{drop-set-lt, take-set-le, take-set-lt}
 use Rattle.std.specs.List.Sorted.{IsPermutation}
-use lib.Seq.{take_all, take-suc}
 use Rattle.std.proofs.lemmas.Bool.{eq-eqb}
-use Rattle.std.proofs.lemmas.List.{drop-drop, drop-take, length-take, length-take-le, take-append-drop, take-take}
-use Rattle.std.proofs.lemmas.List.Sorted.{IsPermutation-append_right, IsPermutation-refl, IsPermutation-sym, IsPermutation-to_front, IsPermutation-trans}
-use Rattle.og_reduce.specs.Places.{ArePlaces, AreRising, others_from}
-use Rattle.og_reduce.proofs.PlaceLemmas.{others-front, others-nowhere, others-out}
+use Rattle.std.proofs.lemmas.List.{drop-set, drop_all, length-take-le, take-append-drop, take-set}
+use Rattle.std.proofs.lemmas.List.Edits.{length-swap}
+use Rattle.std.proofs.lemmas.List.Sorted.{IsPermutation-append_left, IsPermutation-middle, IsPermutation-refl, IsPermutation-sym, IsPermutation-trans}
+use Rattle.og_rel.specs.Places.{ArePlaces, others_at, others_from}
+use Rattle.og_rel.proofs.PlaceLemmas.{drop-at, nothing_and, others-append, others-front, others-kept, others-out, rising-lower}
 
 module _ {X : Type 0} where
-  -- behind one element more
-  swap_remove-behind : (x : X) (xs : List X) (j : ℕ) (d : X) → j < length xs → swap_remove (x ∷ xs) (suc j) d ≡ x ∷ swap_remove xs j d
-  swap_remove-behind x [] j d there = absurd (omega (arith, there))
-  swap_remove-behind x (y ∷ ys) j d there =
-      let m = length ys in
-      let longer : length (x ∷ y ∷ ys) - 1 ≡ suc m = omega arith in
-      let long : length (y ∷ ys) - 1 ≡ m = omega arith in
-      ap (λ k. take k (set (x ∷ y ∷ ys) (suc j) (get_or (x ∷ y ∷ ys) k d))) longer
-      ∙ sym (ap (λ k. x ∷ take k (set (y ∷ ys) j (get_or (y ∷ ys) k d))) long)
-
-  -- those before the place stay
-  swap_remove-front : (xs : List X) (j : ℕ) (d : X) → j < length xs → take j (swap_remove xs j d) ≡ take j xs
-  swap_remove-front xs zero d there = refl
-  swap_remove-front [] (suc j) d there = absurd (omega (arith, there))
-  swap_remove-front (x ∷ xs) (suc j) d there =
-      ap (take (suc j)) (swap_remove-behind x xs j d (omega (arith, there))) ∙ ap (λ l. x ∷ l) (swap_remove-front xs j d (omega (arith, there)))
-
-  -- where the first is taken out, the last comes to the front
-  behind-first : (x : X) (xs : List X) (d : X) → IsPermutation (swap_remove (x ∷ xs) 0 d) xs
-  behind-first x [] d = IsPermutation-refl []
-  behind-first x (a ∷ bs) d =
-      let n = length bs in
-      let z = get_or (a ∷ bs) n d in
-      let longer : length (x ∷ a ∷ bs) - 1 ≡ suc n = omega arith in
-      let moved : swap_remove (x ∷ a ∷ bs) 0 d ≡ z ∷ take n (a ∷ bs) = ap (λ k. take k (set (x ∷ a ∷ bs) 0 (get_or (x ∷ a ∷ bs) k d))) longer in
-      let whole : take n (a ∷ bs) ++ z ∷ [] ≡ a ∷ bs = sym (take-suc (a ∷ bs) n d (omega arith)) ∙ take_all (suc n) (a ∷ bs) (omega arith) in
-      subst (λ l. IsPermutation l (a ∷ bs)) (sym moved)
-      (subst (IsPermutation (z ∷ take n (a ∷ bs))) whole (IsPermutation-sym (take n (a ∷ bs) ++ z ∷ []) (z ∷ take n (a ∷ bs)) (IsPermutation-to_front (take n (a ∷ bs)) z)))
-
-  -- and those behind it, in another order
-  swap_remove-back : (xs : List X) (j : ℕ) (d : X) → j < length xs → IsPermutation (drop j (swap_remove xs j d)) (drop (suc j) xs)
-  swap_remove-back [] j d there = absurd (omega (arith, there))
-  swap_remove-back (x ∷ xs) zero d there = behind-first x xs d
-  swap_remove-back (x ∷ xs) (suc j) d there =
-      subst (λ l. IsPermutation l (drop (suc j) xs)) (sym (ap (drop (suc j)) (swap_remove-behind x xs j d (omega (arith, there))))) (swap_remove-back xs j d (omega (arith, there)))
-
-  -- what lies from a place on begins with what lies there
-  pub drop-at : (xs : List X) (j : ℕ) (d : X) → j < length xs → drop j xs ≡ get_or xs j d ∷ drop (suc j) xs
-  drop-at [] j d there = absurd (omega (arith, there))
-  drop-at (x ∷ xs) zero d there = refl
-  drop-at (x ∷ xs) (suc j) d there = drop-at xs j d (omega (arith, there))
-
--- what lies behind that many of some places that rise from one on
-abbrev behind_from : ℕ → ℕ → List ℕ → ℕ
-behind_from i zero at = i
-behind_from i (suc k) at = suc (get_or at k 0)
-
--- what lies behind that many of some places
-abbrev pub behind : ℕ → List ℕ → ℕ
-behind k at = behind_from 0 k at
-
--- the others rise from it on
-rising-behind : (i k : ℕ) (at : List ℕ) (end : ℕ) → k ≤ length at → AreRising i at end → AreRising (behind_from i k at) (drop k at) end
-rising-behind i zero at end there are = are
-rising-behind i (suc k) [] end there are = tt
-rising-behind i (suc zero) (p ∷ at) end there are = are.2
-rising-behind i (suc (suc k)) (p ∷ at) end there are = rising-behind (suc p) (suc k) at end (omega (arith, there)) are.2
-
-module _ {X : Type 0} (old : List X) where
-  -- those before a place stand where they did, and from it on those are left that stand at none of the places
-  abbrev pub AreLeft : ℕ → List ℕ → List X → Type 0
-  AreLeft i at now = (take i now ≡ take i old) × IsPermutation (drop i now) (others_from i at (drop i old))
-
-  -- nothing is taken out
-  pub left-none : (i : ℕ) → AreLeft i [] old
-  left-none i = (refl, subst (IsPermutation (drop i old)) (sym (others-nowhere i (drop i old))) (IsPermutation-refl (drop i old)))
-
-  -- there are as many as stand where they did
-  left-there : (i : ℕ) (at : List ℕ) (now : List X) → i < length old → AreLeft (suc i) at now → i < length now
-  left-there i at now there left =
-      let long = sym (length-take (suc i) now) ∙ ap length left.0 ∙ length-take-le (suc i) old (omega (arith, there)) in
-      omega (arith, long)
-
-  -- so from a lesser place on
-  left-before : (i n : ℕ) (at : List ℕ) (end : ℕ) (now : List X) → AreRising (i + n) at end → AreLeft (i + n) at now → AreLeft i at now
-  left-before i n at end now are left = (
-    sym (take-take i (i + n) now (omega arith)) ∙ ap (take i) left.0 ∙ take-take i (i + n) old (omega arith),
-    subst (λ l. IsPermutation l (others_from i at (drop i old))) (sym (parted now))
-        (subst (λ l. IsPermutation (take n (drop i now) ++ drop (i + n) now) l) (sym there) (subst (λ l. IsPermutation (l ++ drop (i + n) now) (take n (drop i old) ++ rest)) (sym same)
-        (IsPermutation-append_right (take n (drop i old)) (drop (i + n) now) rest left.1))),
-  )
+  -- where an element is put at a place, it is one of those that are left at none of the later places
+  put-others : (k : ℕ) (at : List ℕ) (xs : List X) (y : X) → ArePlaces (k ∷ at) (length xs) → IsPermutation (others_at at (set xs k y)) (y ∷ others_at (k ∷ at) xs)
+  put-others k at xs y are =
+      subst (λ l. IsPermutation l (y ∷ others_at (k ∷ at) xs)) (sym with_it)
+      (subst (λ l. IsPermutation (take k xs ++ y ∷ rest) (y ∷ l)) (sym without) (IsPermutation-middle (take k xs) y rest))
     where
+      end : ℕ
+      end = length xs
+
       rest : List X
-      rest = others_from (i + n) at (drop (i + n) old)
+      rest = others_from (suc k) at (drop (suc k) xs)
 
-      parted : (xs : List X) → drop i xs ≡ take n (drop i xs) ++ drop (i + n) xs
-      parted xs = sym (take-append-drop n (drop i xs)) ∙ ap (λ l. take n (drop i xs) ++ l) (drop-drop n i xs)
+      next : k + 1 ≡ suc k
+      next = omega arith
 
-      there : others_from i at (drop i old) ≡ take n (drop i old) ++ rest
-      there = others-front n i at end (drop i old) are ∙ ap (λ l. take n (drop i old) ++ others_from (i + n) at l) (drop-drop n i old)
+      with_it : others_at at (set xs k y) ≡ take k xs ++ y ∷ rest
+      with_it =
+          others-front k 0 at end (set xs k y) (rising-lower (0 + k) (suc k) at end (omega arith) are.2)
+          ∙ ap (λ j. take k (set xs k y) ++ others_from j at (drop k (set xs k y))) (nothing_and k)
+          ∙ ap₂ (λ a b. a ++ others_from k at b) (take-set xs k y) (drop-set xs k y are.1 ∙ ap (λ n. y ∷ drop n xs) next)
+          ∙ ap (λ l. take k xs ++ l) (others-kept k at end y (drop (suc k) xs) are.2)
 
-      same : take n (drop i now) ≡ take n (drop i old)
-      same = sym (drop-take i n now) ∙ ap (drop i) left.0 ∙ drop-take i n old
+      without : others_at (k ∷ at) xs ≡ take k xs ++ rest
+      without =
+          others-front k 0 (k ∷ at) end xs (omega arith, are.1, are.2)
+          ∙ ap (λ j. take k xs ++ others_from j (k ∷ at) (drop k xs)) (nothing_and k)
+          ∙ ap (λ l. take k xs ++ others_from k (k ∷ at) l) (drop-at xs k y are.1)
+          ∙ ap (λ l. take k xs ++ l) (others-out k k at (get_or xs k y) (drop (suc k) xs) (eq-eqb k k refl))
 
-  -- the one at the place is taken out
-  left-out : (i : ℕ) (at : List ℕ) (now : List X) (d : X) → i < length old → AreLeft (suc i) at now → AreLeft i (i ∷ at) (swap_remove now i d)
-  left-out i at now d there left =
-      let within = left-there i at now there left in (
-        swap_remove-front now i d within ∙ sym (take-take i (suc i) now (omega arith)) ∙ ap (take i) left.0 ∙ take-take i (suc i) old (omega arith),
-        subst (IsPermutation (drop i (swap_remove now i d))) (sym out) (IsPermutation-trans _ _ _ (swap_remove-back now i d within) left.1),
-      )
+module _ {X : Type 0} (at : List ℕ) (old : List X) (from : ℕ) where
+  -- that many of the elements from one on have come to the first of the places
+  pub record HaveCome (k : ℕ) (now : List X) : Type 0 where
+    pub long : length now ≡ length old
+    pub places : ArePlaces (drop k at) from
+    pub left : IsPermutation (others_at (drop k at) (take from now) ++ drop (from + k) now) (others_at at old)
+
+  pub none_came : ArePlaces at from → from ≤ length old → HaveCome 0 old
+  none_came are within = record {
+    long = refl;
+    places = are;
+    left =
+        let all : others_at at (take from old) ++ drop from old ≡ others_at at old =
+        sym (others-append at (take from old) (drop from old) (subst (ArePlaces at) (sym (length-take-le from old within)) are)) ∙ ap (others_at at) (take-append-drop from old) in
+        subst (λ n. IsPermutation (others_at at (take from old) ++ drop n old) (others_at at old)) (omega arith)
+        (subst (λ l. IsPermutation l (others_at at old)) (sym all) (IsPermutation-refl (others_at at old)));
+  }
+
+  -- the next one comes
+  pub next_came : (k : ℕ) (now : List X) (d : X) → k < length at → from + k < length now → HaveCome k now → HaveCome (k + 1) (swap now (get_or at k 0) (from + k))
+  next_came k [] d there within come = absurd (omega (arith, within))
+  next_came k (x ∷ xs) d there within come = let more : suc k ≡ k + 1 = omega arith in subst (λ n. HaveCome n (swap (x ∷ xs) (get_or at k 0) (from + k))) more (record {
+    long = length-swap now a b ∙ come.long;
+    places = rising-lower 0 (suc a) rest from (omega arith) are.2;
+    left =
+        subst (λ l. IsPermutation (l ++ drop (from + suc k) (swap now a b)) (others_at at old)) (ap (others_at rest) (sym front))
+        (subst (λ l. IsPermutation (others_at rest (set (take from now) a y) ++ l) (others_at at old)) (sym back) (IsPermutation-trans _ _ _ moved (subst (λ l. IsPermutation l (others_at at old)) before come.left)));
+  })
     where
-      out : others_from i (i ∷ at) (drop i old) ≡ others_from (suc i) at (drop (suc i) old)
-      out = ap (others_from i (i ∷ at)) (drop-at old i d there) ∙ others-out i i at (get_or old i d) (drop (suc i) old) (eq-eqb i i refl)
+      now : List X
+      now = x ∷ xs
 
-  module _ (at : List ℕ) (are : ArePlaces at (length old)) (j : ℕ) (within : j < length at) where
-    -- a place, and those behind it
-    rising : AreRising (behind j at) (get_or at j 0 ∷ drop (suc j) at) (length old)
-    rising = subst (λ l. AreRising (behind j at) l (length old)) (drop-at at j 0 within) (rising-behind 0 j at (length old) (omega (arith, within)) are)
+      a : ℕ
+      a = get_or at k 0
 
-    module _ (now : List X) (left : AreLeft (behind (suc j) at) (drop (suc j) at) now) where
-      -- it is one of those that are left
-      pub next-there : get_or at j 0 < length now
-      next-there = left-there (get_or at j 0) (drop (suc j) at) now rising.1 left
+      b : ℕ
+      b = from + k
 
-      -- it is the next to be taken out
-      pub next-out : (d : X) → AreLeft (behind j at) (drop j at) (swap_remove now (get_or at j 0) d)
-      next-out d =
-          let p = get_or at j 0 in
-          let b = behind j at in
-          let upto : b + (p - b) ≡ p = omega (arith, rising.0) in
-          subst (λ l. AreLeft b l (swap_remove now p d)) (sym (drop-at at j 0 within))
-          (left-before b (p - b) (p ∷ drop (suc j) at) (length old) (swap_remove now p d)
-          (subst (λ k. AreRising k (p ∷ drop (suc j) at) (length old)) (sym upto) (omega arith, rising.1, rising.2))
-          (subst (λ k. AreLeft k (p ∷ drop (suc j) at) (swap_remove now p d)) (sym upto) (left-out p (drop (suc j) at) now d rising.1 left)))
+      rest : List ℕ
+      rest = drop (suc k) at
+
+      y : X
+      y = get_or now b x
+
+      first : drop k at ≡ a ∷ rest
+      first = drop-at at k 0 there
+
+      are : ArePlaces (a ∷ rest) from
+      are = subst (λ l. ArePlaces l from) first come.places
+
+      front : take from (swap now a b) ≡ set (take from now) a y
+      front = take-set-le from (set now a y) b (get_or now a x) (omega arith) ∙ take-set-lt from now a y are.1
+
+      next : from + suc k ≡ suc b
+      next = omega arith
+
+      back : drop (from + suc k) (swap now a b) ≡ drop (suc b) now
+      back = ap (λ n. drop n (swap now a b)) next ∙ drop-set-lt (suc b) (set now a y) b (get_or now a x) (omega arith) ∙ drop-set-lt (suc b) now a y (omega (arith, are.1))
+
+      long : length (take from now) ≡ from
+      long = length-take-le from now (omega (arith, within))
+
+      others : List X
+      others = others_at (a ∷ rest) (take from now)
+
+      before : others_at (drop k at) (take from now) ++ drop b now ≡ others ++ y ∷ drop (suc b) now
+      before = ap₂ (λ l m. others_at l (take from now) ++ m) first (drop-at now b x within)
+
+      moved : IsPermutation (others_at rest (set (take from now) a y) ++ drop (suc b) now) (others ++ y ∷ drop (suc b) now)
+      moved = IsPermutation-trans _ _ _
+          (IsPermutation-append_left (drop (suc b) now) (others_at rest (set (take from now) a y)) (y ∷ others) (put-others a rest (take from now) y (subst (ArePlaces (a ∷ rest)) (sym long) are)))
+          (IsPermutation-sym (others ++ y ∷ drop (suc b) now) (y ∷ (others ++ drop (suc b) now)) (IsPermutation-middle others y (drop (suc b) now)))
+
+  -- all have come
+  pub all_came : (k : ℕ) (now : List X) → length now ≤ from + k → HaveCome k now → IsPermutation (others_at (drop k at) (take from now)) (others_at at old)
+  all_came k now end come =
+      subst (λ l. IsPermutation l (others_at at old)) (ap (λ l. others_at (drop k at) (take from now) ++ l) (drop_all (from + k) now end) ∙ append-nil (others_at (drop k at) (take from now))) come.left

@@ -24,7 +24,7 @@ use Rattle.og_value.specs.Heads.{number_at, number_in}
 use Rattle.og_reduce.specs.RangeTests.{is_within}
 use Rattle.og_reduce.specs.Sieves.{Keys, Relation, Test, column, is_among, meets, passes, row_meets, row_passes, sifted, tests_from}
 use Rattle.og_reduce.proofs.NumberLemmas.{not_between}
-use Rattle.og_reduce.proofs.PlaceLemmas.{and_nothing, nothing_and, one_across}
+use Rattle.og_rel.proofs.PlaceLemmas.{and_nothing, nothing_and, one_across}
 
 -- what is among keys on one day is on another
 among-on_day : (keys : Keys) (d e : ℤ) (v : Value) → is_among keys (value_at v d) ≡ is_among keys (value_at v e)

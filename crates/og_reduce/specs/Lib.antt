@@ -1,5 +1,4 @@
-pub mod Firsts
+pub mod Columns
 pub mod Numbers
-pub mod Places
 pub mod RangeTests
 pub mod Sieves

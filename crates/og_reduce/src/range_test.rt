@@ -25,10 +25,10 @@ impl RangeTest {
         }
     }
 
-    // Whether a row may pass that begins with the number.
-    pub(crate) fn may_begin(&self, first: &i64) -> bool
-        ensures { IsFalse result → (row : List Value) → number_at row 0 ≡ Some first.now → may_pass self.now row ≡ false }
+    // Whether a row may pass that has the number in the column.
+    pub(crate) fn may_have(&self, column: usize, number: &i64) -> bool
+        ensures { IsFalse result → (row : List Value) → number_at row column ≡ Some number.now → may_pass self.now row ≡ false }
     {
-        self.column != 0 || (self.least <= *first && *first <= self.greatest)
+        self.column != column || (self.least <= *number && *number <= self.greatest)
     }
 }

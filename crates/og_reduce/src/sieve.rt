@@ -7,7 +7,7 @@ ghost use Rattle.og_query.specs.Queries.{Fixed};
 ghost use Rattle.og_reduce.specs.RangeTests.{Tells};
 ghost use Rattle.og_reduce.specs.Sieves.{is_among, meets, passes, row_meets, row_passes, tests_from};
 
-use crate::head_test::HeadTest;
+use crate::number_test::NumberTest;
 use crate::numbers::Numbers;
 use crate::range_test::RangeTest;
 use og_base::NoMemory;
@@ -234,10 +234,17 @@ impl RowTest<Row> for Sieve<'_> {
     }
 }
 
-impl HeadTest for Sieve<'_> {
-    fn may_begin(&self, first: &i64) -> bool {
+impl NumberTest for Sieve<'_> {
+    fn column(&self) -> Option<usize> {
         match &self.first {
-            Some(range) => range.may_begin(first),
+            Some(range) => Some(range.column),
+            None => None,
+        }
+    }
+
+    fn may_have(&self, column: usize, number: &i64) -> bool {
+        match &self.first {
+            Some(range) => range.may_have(column, number),
             None => true,
         }
     }

@@ -2,6 +2,7 @@ pub mod AlgebraLemmas
 pub mod BlockLemmas
 pub mod PairLemmas
 pub mod PermutationLemmas
+pub mod PlaceLemmas
 pub mod PresentLemmas
 pub mod RisingLemmas
 mod ShareLemmas

@@ -1,11 +1,11 @@
 -- The pairs that the code holds: those that pass a test or do not, and the rows of a day, of pairs one after the other and of the first pairs and one more.
-use Rattle.std.proofs.Common.{◌≡◌, ◌≢◌, true≢false, ◌++◌, ◌+◌, ◌<◌, ℕ, ℤ, Bool, true, false, not, cond, List, [], ◌∷◌, length, get_or, take, map, filter, refl, sym, ap, ◌∙◌}
+use Rattle.std.proofs.Common.{◌≡◌, ◌≢◌, true≢false, ◌++◌, ◌+◌, ◌<◌, ℕ, ℤ, Bool, true, false, cond, List, [], ◌∷◌, length, get_or, take, map, filter, refl, sym, ap, ◌∙◌}
 use Rattle.std.specs.List.{All, flat_map}
-use Rattle.std.proofs.lemmas.List.{length-map, map-append, take_more}
-use Rattle.std.proofs.lemmas.List.Elements.{All-append, All-filter, filter_passes}
+use Rattle.std.proofs.lemmas.List.{map-append, take_more}
+use Rattle.std.proofs.lemmas.List.Elements.{All-filter, filter_passes}
 use Rattle.og_base.specs.Ranges.{IsNormal, Range}
 use Rattle.og_rel.specs.declared.pair.Pair.{Pair}
-use Rattle.og_rel.specs.Relations.{HasDays, instead, others, passing, present, stored}
+use Rattle.og_rel.specs.Relations.{HasDays, passing, present, stored}
 use Rattle.og_rel.specs.Pairs.{has_day, present_of_pairs}
 use Rattle.og_rel.proofs.PresentLemmas.{present-append}
 
@@ -19,33 +19,6 @@ module _ {R : Type 0} where
         | true ↦ ap (λ rows. (p.row, p.days) ∷ rows) (passing-pairs passes pairs)
         | false ↦ passing-pairs passes pairs
       ]
-
-module _ {R : Type 0} (passes : R → Bool) (pairs : List (Pair R)) where
-  -- the pairs whose rows do not pass
-  abbrev other_pairs : List (Pair R)
-  other_pairs = filter (λ p. not (passes p.row)) pairs
-
-  -- are the rows that do not pass
-  others-pairs : map (λ p. (p.row, p.days)) other_pairs ≡ others passes (map (λ p. (p.row, p.days)) pairs)
-  others-pairs = passing-pairs (λ row. not (passes row)) pairs
-
-  -- so many
-  pub length-others : length other_pairs ≡ length (others passes (map (λ p. (p.row, p.days)) pairs))
-  length-others = sym (length-map other_pairs (λ p. (p.row, p.days))) ∙ ap length others-pairs
-
-  module _ (more before after : List (Pair R)) (same : before ≡ pairs) (all : after ≡ filter (λ p. not (passes p.row)) before ++ more) where
-    here : after ≡ other_pairs ++ more
-    here = all ∙ ap (λ ps. filter (λ p. not (passes p.row)) ps ++ more) same
-
-    -- with others in the place of those that pass
-    pub replaced-pairs : map (λ p. (p.row, p.days)) after ≡ instead passes (map (λ p. (p.row, p.days)) more) (map (λ p. (p.row, p.days)) pairs)
-    replaced-pairs =
-        ap (map (λ p. (p.row, p.days))) here ∙ map-append (λ p. (p.row, p.days)) other_pairs more ∙ ap (λ rows. rows ++ map (λ p. (p.row, p.days)) more) others-pairs
-
-    -- each of them has a day, where each of the pairs and of the others has
-    pub replaced-days : All (λ p. HasDays p.days) pairs → All (λ p. HasDays p.days) more → All (λ p. HasDays p.days) after
-    replaced-days days more_days =
-        rw here (All-append (λ p. HasDays p.days) other_pairs more (All-filter (λ p. not (passes p.row)) (λ p. HasDays p.days) pairs days) more_days)
 
 module _ {R F : Type 0} (at : R → ℤ → F) (d : ℤ) where
   -- of pairs one after the other

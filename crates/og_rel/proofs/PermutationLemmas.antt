@@ -1,10 +1,10 @@
 -- Lists in another order: what is made of one element by element is the same in another order, and a relation has the same rows at a day.
-use Rattle.std.proofs.Common.{◌≡◌, ◌++◌, ◌<◌, ℕ, ℤ, zero, suc, List, [], ◌∷◌, length, get_or, set, swap, take, map, Ordering, sym, ap, subst, ◌-◌, ◌∙◌, arith}
+use Rattle.std.proofs.Common.{◌≡◌, ◌++◌, ◌<◌, ℕ, ℤ, zero, suc, List, [], ◌∷◌, length, get_or, set, swap, map, Ordering, refl, sym, ap, ap₂, subst, ◌∙◌, arith}
 use Rattle.std.specs.List.Sorted.{IsPermutation}
-use Rattle.std.specs.Prelude.{swap_remove}
 use lib.Seq.{map-set}
-use Rattle.std.specs.List.{take-map}
-use Rattle.std.proofs.lemmas.List.{get_or-map, length-map}
+use Rattle.std.specs.List.{All}
+use Rattle.std.proofs.lemmas.List.{get_or-map}
+use Rattle.std.proofs.lemmas.List.Elements.{All-set}
 use Rattle.std.proofs.lemmas.List.Sorted.{IsPermutation-append_comm, IsPermutation-append_left, IsPermutation-append_right, IsPermutation-keeps, IsPermutation-refl, IsPermutation-trans}
 use Rattle.og_base.specs.Ranges.{Range}
 use Rattle.og_base.specs.Set.{IsExactOrder}
@@ -56,15 +56,21 @@ module _ {X Y : Type 0} (f : List X → List Y) (along : (xs ys : List X) → f 
   pub IsPermutation-along : (xs ys : List X) → IsPermutation xs ys → IsPermutation (f xs) (f ys)
   IsPermutation-along xs = IsPermutation-keeps xs (λ l. IsPermutation (f xs) (f l)) (IsPermutation-refl (f xs)) (λ l i j p q h. chain xs l _ h (swapped l i j p q))
 
--- what is made of the elements, where one is taken out and the last one comes to its place
-pub map-swap_remove : {X Y : Type 0} (f : X → Y) (xs : List X) (i : ℕ) (x : X) (y : Y) → i < length xs → map f (swap_remove xs i x) ≡ swap_remove (map f xs) i y
-map-swap_remove f xs i x y there =
-    let n = length xs - 1 in
-    let long : length (map f xs) ≡ length xs = length-map xs f in
-    let last : f (get_or xs n x) ≡ get_or (map f xs) n y = sym (get_or-map f xs n x y (omega (arith, there))) in
-    sym (take-map f n (set xs i (get_or xs n x)))
-    ∙ ap (take n) (map-set f xs i (get_or xs n x) ∙ ap (set (map f xs) i) last)
-    ∙ ap (λ m. take (m - 1) (set (map f xs) i (get_or (map f xs) (m - 1) y))) (sym long)
+-- what is made of the elements, where two are exchanged
+pub map-swap : {X Y : Type 0} (f : X → Y) (xs : List X) (i j : ℕ) → i < length xs → j < length xs → map f (swap xs i j) ≡ swap (map f xs) i j
+map-swap f [] i j p q = refl
+map-swap f (x ∷ xs) i j p q =
+    let l = x ∷ xs in
+    let at : (k : ℕ) → k < length l → f (get_or l k x) ≡ get_or (map f l) k (f x) = λ k h. sym (get_or-map f l k x (f x) h) in
+    map-set f (set l i (get_or l j x)) j (get_or l i x) ∙ ap (λ m. set m j (f (get_or l i x))) (map-set f l i (get_or l j x))
+    ∙ ap₂ (λ y z. set (set (map f l) i y) j z) (at j q) (at i p)
+
+-- what all have, all have where two are exchanged
+pub All-swap : {X : Type 0} (P : X → Type 0) (xs : List X) (i j : ℕ) → i < length xs → j < length xs → All P xs → All P (swap xs i j)
+All-swap P [] i j p q all = all
+All-swap P (x ∷ xs) i j p q all =
+    let l = x ∷ xs in
+    All-set P (set l i (get_or l j x)) j (get_or l i x) (all i x p) (All-set P l i (get_or l j x) (all j x q) all)
 
 module _ {R F : Type 0} {cmp : F → F → Ordering} (o : IsExactOrder cmp) (at : R → ℤ → F) where
   -- a relation in another order has the same rows at a day

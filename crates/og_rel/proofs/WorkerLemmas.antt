@@ -23,11 +23,6 @@ module _ {F : Type 0} {cmp : F → F → Ordering} (o : IsExactOrder cmp) where
   set_of-permutation xs ys moved =
       same_set o xs ys (λ z h. Contains-permutation xs ys z moved h) (λ z h. Contains-permutation ys xs z (IsPermutation-sym xs ys moved) h)
 
-  -- of a rising list in parts
-  pub set_of-parts : (present rows rising : List F) (parts : List (Vec F Global)) → rows ≡ present → rising ≡ set_of cmp rows → IsPermutation rising (rows_of parts) → set_of cmp (rows_of parts) ≡ set_of cmp present
-  set_of-parts present rows rising parts rows_are rising_is same =
-      sym (set_of-permutation rising (rows_of parts) same) ∙ ap (set_of cmp) rising_is ∙ set_of-set_of o rows ∙ ap (set_of cmp) rows_are
-
   -- of two lists, one after the other, of which each has the set of another
   pub set_of-both : (a b x y : List F) → set_of cmp a ≡ set_of cmp x → set_of cmp b ≡ set_of cmp y → set_of cmp (a ++ b) ≡ set_of cmp (x ++ y)
   set_of-both a b x y e f =
@@ -70,12 +65,3 @@ set_of-shares {F} {cmp} o gives each parts shares lists rows same put ordered =
     ∙ set_of-made o gives rows_of (λ share. rows_of share.items) refl (flat_map-append (λ p. p.items))
     (λ share a h. ap (set_of cmp) (each share a h).0 ∙ set_of-set_of o (rows_of share.items)) shares lists put
     ∙ sym (set_of-permutation o (rows_of parts) (rows_of_shares shares) same)
-
-module _ {R F : Type 0} {cmp : F → F → Ordering} (o : IsExactOrder cmp) (at : R → ℤ → F) (d : ℤ) where
-  -- parts made of blocks of pairs
-  pub set_of-blocks : (blocks : List (Bor (List (Pair R)))) (parts : List (Vec F Global))
-      → MadeOfEach (λ block made. set_of cmp (rows_of made) ≡ set_of cmp (present_of_pairs at block.now d)) blocks parts
-      → set_of cmp (rows_of parts) ≡ set_of cmp (present_of_pairs at (flat_map (λ b. b.now) blocks) d)
-  set_of-blocks blocks parts made =
-      set_of-made o (λ block a. set_of cmp (rows_of a) ≡ set_of cmp (present_of_pairs at block.now d)) rows_of (λ b. present_of_pairs at b.now d) refl (flat_map-append (λ p. p.items)) (λ b a h. h) blocks parts made
-      ∙ ap (set_of cmp) (present_of_pairs-blocks at d blocks)

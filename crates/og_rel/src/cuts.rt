@@ -4,29 +4,14 @@ ghost use Rattle.std.specs.List.Sorted.{IsPermutation};
 ghost use Rattle.og_base.specs.Set.{IsExact};
 ghost use Rattle.og_rel.specs.Shares.{rows_of};
 
-use crate::pair::{Pair, add_row};
-use og_base::{Instant, NoMemory, RefDay, rising};
+use og_base::{NoMemory, rising};
 use std::alloc::Global;
 use std::cmp::Ordering;
 
 // At how many items it is looked for each share.
 const LOOKS: usize = 64;
 
-// Rows of the day, falling, before which the rows are cut into so many shares or fewer.
-pub(crate) fn cuts_of<R: Instant>(
-    alloc: Global,
-    shares: usize,
-    pairs: &[Pair<R>],
-    d: RefDay,
-) -> Result<Vec<R::Fixed>, NoMemory>
-    requires { 1 ≤ shares }
-{
-    let some = some_of(alloc, shares, pairs)?;
-    let rows = rows_at(alloc, some.as_slice(), d)?;
-    cuts_among(rows, shares)
-}
-
-/// Rows, falling, before which rows are cut into so many shares or fewer: some of these, which are chosen so that
+/// Rows, falling, before which rows are cut into that many shares or fewer: some of these, which are chosen so that
 /// the shares are about equal where these stand for all. Nothing else rests on which they are. Refused only for want
 /// of memory.
 pub fn cuts_among<F: Ord + Drop>(rows: Vec<F>, shares: usize) -> Result<Vec<F>, NoMemory>
@@ -58,19 +43,6 @@ pub fn some_of<'a, X>(alloc: Global, shares: usize, items: &'a [X]) -> Result<Ve
         }
     }
     Ok(some)
-}
-
-// The rows of the pairs at the day.
-fn rows_at<R: Instant>(
-    alloc: Global,
-    pairs: &[&Pair<R>],
-    d: RefDay,
-) -> Result<Vec<R::Fixed>, NoMemory> {
-    let mut rows = Vec::new(alloc);
-    'pairs: for pair in pairs {
-        add_row(alloc, *pair, d, &mut rows)?;
-    }
-    Ok(rows)
 }
 
 /// The rows in parts, cut before each of the cuts, which fall, the last part first. Refused only for want of memory.

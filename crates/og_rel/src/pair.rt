@@ -1,7 +1,6 @@
 //! A row and the days on which it is present.
-ghost use Rattle.std.specs.Prelude.{◌≡◌, ◌++◌, ◌+◌, ◌≤◌, [], ◌∷◌, IfOk, OnOk, filter, length, not};
+ghost use Rattle.std.specs.Prelude.{◌≡◌, ◌++◌, [], ◌∷◌, IfOk, OnOk, filter};
 ghost use Rattle.std.specs.List.{All};
-ghost use Rattle.std.specs.Vec.{vec_capacity, vec_len};
 ghost use Rattle.og_base.specs.Ranges.{IsNormal};
 ghost use Rattle.og_rel.specs.Pairs.{has_day, present_of_pairs};
 ghost use Rattle.og_rel.specs.Relations.{HasDays};
@@ -96,32 +95,4 @@ pub(crate) fn add_passing<R: OngoingRow + Drop, T: RowTest<R>>(
         pairs.push(pair.copy(alloc)?)?;
     }
     Ok(())
-}
-
-// Puts more pairs in the place of those whose rows pass the test, where there is room for all of them: what
-// is taken out does not come back.
-pub(crate) fn replace_pairs<R: Drop, T: RowTest<R>>(
-    pairs: &mut Vec<Pair<R>>,
-    test: &T,
-    more: Vec<Pair<R>>,
-)
-    requires { vec_len pairs.old + vec_len more ≤ vec_capacity pairs.old }
-    ensures { pairs.new.items ≡ filter (λ p. not (T.passes test.now p.row)) pairs.old.items ++ more.items }
-{
-    pairs.retain(
-        |pair: &Pair<R>| -> bool
-            ensures { result ≡ not (T.passes test.entry.now pair.now.row) }
-        { !test.test(&pair.row) },
-    );
-    let mut more = more;
-    let Ok(()) = pairs.append(&mut more) else {
-        unreachable!();
-    };
-}
-
-// The number of pairs whose rows do not pass the test.
-pub(crate) fn count_other_pairs<R, T: RowTest<R>>(pairs: &[Pair<R>], test: &T) -> usize
-    ensures { result ≡ length (filter (λ p. not (T.passes test.now p.row)) pairs.now) }
-{
-    pairs.iter().filter(|pair| !test.test(&pair.row)).count()
 }

@@ -1,20 +1,16 @@
 //! Relations.
-ghost use Rattle.std.specs.Prelude.{◌≡◌, ◌++◌, ◌<◌, List, [], IfOk, OnOk, OnErr, length, map, slice_index_or, swap_remove, take};
+ghost use Rattle.std.specs.Prelude.{◌≡◌, ◌++◌, ◌<◌, ◌≤◌, List, [], IfOk, OnOk, OnErr, drop, length, map, slice_index_or, swap, take};
 ghost use Rattle.std.specs.List.{All, flat_map};
 ghost use Rattle.og_base.specs.Ranges.{Range};
-ghost use Rattle.og_rel.specs.Relations.{HasDays, instead, others, passing, relation_at, stored};
+ghost use Rattle.og_rel.specs.Places.{ArePlaces, others_at};
+ghost use Rattle.og_rel.specs.Relations.{HasDays, passing, relation_at, stored};
 
-use crate::blocks::LEAST;
-use crate::by_workers::rows_by_workers;
-use crate::pair::{
-    Pair, add_passing, count_other_pairs, pairs_with_days, present_rows, replace_pairs,
-};
+use crate::pair::{Pair, add_passing, pairs_with_days, present_rows};
+use crate::places::remove_at;
 use crate::row_test::RowTest;
 use og_base::{Instant, NoMemory, OngoingRow, RefDay, RtSet, rising};
-use og_par::{Crew, Gate};
 use std::alloc::Global;
 use std::marker::Model;
-use std::thread::Threads;
 
 /// A relation: rows, each with the days on which it is present, seen as the list of the rows with
 /// the ranges of their days. No set of days in it is empty.
@@ -86,19 +82,6 @@ impl<R> Rel<R> {
         Ok(())
     }
 
-    /// Puts `more` in the place of the rows that pass the test; the others keep their order. Refused only
-    /// for want of memory, and then nothing has changed.
-    pub fn replace<T: RowTest<R>>(&mut self, test: &T, more: Rel<R>) -> Result<(), NoMemory>
-    where
-        R: Drop,
-        ensures replaced { OnOk result (self.new ≡ instead (T.passes test.now) more self.old) }
-        ensures refused { OnErr result (self.new ≡ self.old) }
-    {
-        self.pairs.reserve(more.pairs.len())?;
-        replace_pairs(&mut self.pairs, test, more.pairs);
-        Ok(())
-    }
-
     /// Keeps that many of the first rows, and all where there are fewer. Takes no memory.
     pub fn truncate(&mut self, len: usize)
     where
@@ -108,21 +91,31 @@ impl<R> Rel<R> {
         self.pairs.truncate(len);
     }
 
-    /// Takes the row at that place out; the last row comes to its place, and no other is moved. Takes no memory.
-    pub fn swap_remove(&mut self, i: usize)
-    where
-        R: Drop,
-        requires { i < length self.old }
-        ensures { (p : R × List Range) → self.new ≡ swap_remove self.old i p }
+    /// Exchanges the rows at two places, with their days. Takes no memory.
+    pub fn swap(&mut self, i: usize, j: usize)
+        requires first { i < length self.old }
+        requires second { j < length self.old }
+        ensures { self.new ≡ swap self.old i j }
     {
-        drop(self.pairs.swap_remove(i));
+        self.pairs.swap(i, j);
     }
 
-    /// The number of rows that do not pass the test: those that `replace` leaves. Takes no memory.
-    pub fn count_others<T: RowTest<R>>(&self, test: &T) -> usize
-        ensures { result ≡ length (others (T.passes test.now) self.now) }
+    /// Takes the rows at places out; the others keep their order. Takes no memory.
+    pub fn remove_at(&mut self, at: &[usize])
+    where
+        R: Drop,
+        requires { ArePlaces at.now (length self.old) }
+        ensures { self.new ≡ others_at at.now self.old }
     {
-        count_other_pairs(self.pairs.as_slice(), test)
+        remove_at(&mut self.pairs, at);
+    }
+
+    /// Puts that many of the first rows behind the others. Takes no memory.
+    pub fn rotate_left(&mut self, count: usize)
+        requires { count ≤ length self.old }
+        ensures { self.new ≡ drop count self.old ++ take count self.old }
+    {
+        self.pairs.rotate_left(count);
     }
 
     /// The number of rows.
@@ -200,25 +193,5 @@ impl<R: OngoingRow> Rel<R> {
         let alloc = *self.pairs.allocator();
         let rows = present_rows(alloc, self.pairs.as_slice(), d)?;
         rising(rows)
-    }
-
-    /// The list of `at`, made by the workers of the crew: each makes the list of a block of
-    /// rows, and then puts together what the blocks have for one share of the list. Refused only for want of
-    /// memory.
-    pub fn at_workers<H: Threads + Sync, G: Gate + Sync>(
-        &self,
-        crew: &Crew<'_, H, G>,
-        d: RefDay,
-    ) -> Result<Vec<R::Fixed>, NoMemory>
-    where
-        R: Sync,
-        R::Fixed: Send + Sync,
-        ensures { IfOk result (λ rows. rows.items ≡ relation_at R.Fixed.cmp R.meaning self.now d) }
-    {
-        if crew.workers() == 1 || self.pairs.len() <= LEAST {
-            crew.gate().enter(0);
-            return self.at(d);
-        }
-        rows_by_workers(crew, self.pairs.as_slice(), d)
     }
 }

@@ -1,16 +1,41 @@
-//! Shares of the rows of a day, each of what several lists have between two cuts.
+//! Lists of the rows of a day, put together in shares: each of what several lists have between two cuts.
 ghost use Rattle.std.specs.Prelude.{◌≡◌, ◌++◌, [], IfOk, OnOk};
 ghost use Rattle.std.specs.List.Sorted.{IsPermutation};
 ghost use Rattle.og_base.specs.Set.{IsExact, set_of};
 ghost use Rattle.og_rel.specs.Shares.{AreListed, rows_of, rows_of_shares};
 
+use crate::ordered::in_order;
 use og_base::{NoMemory, rising};
-use og_par::followed;
+use og_par::{Crew, Gate, followed, par_handed};
 use std::alloc::Global;
+use std::thread::Threads;
 
-// Deals the parts to so many shares, in turn from the last one on: to each share the parts that were cut
+/// The rising list of the rows of the parts. Each worker puts together a share of the parts: those between two cuts,
+/// where each block of rows was listed and cut at the same places, the last part first. Refused only for want of memory.
+pub fn put_together<H: Threads + Sync, F: Ord + Send + Drop, G: Gate + Sync>(
+    crew: &Crew<'_, H, G>,
+    shares: usize,
+    parts: Vec<Vec<F>>,
+) -> Result<Vec<F>, NoMemory>
+    requires exact { IsExact F.cmp }
+    ensures { IfOk result (λ rows. rows.items ≡ set_of F.cmp (rows_of parts.items)) }
+{
+    let alloc = crew.alloc();
+    let shares = shares_of(alloc, shares, parts)?;
+    let lists = par_handed(
+        crew,
+        shares,
+        &|share: Vec<Vec<F>>| -> Result<Vec<Vec<F>>, NoMemory>
+            requires { IsExact F.cmp }
+            ensures { IfOk result (λ lists. AreListed F.cmp (rows_of share.items) lists.items) }
+        { together(alloc, share) },
+    )?;
+    in_order(alloc, lists)
+}
+
+// Deals the parts to that many shares, in turn from the last one on: to each share the parts that were cut
 // at the same place.
-pub(crate) fn shares_of<F: Drop>(
+fn shares_of<F: Drop>(
     alloc: Global,
     count: usize,
     parts: Vec<Vec<F>>,
@@ -24,7 +49,7 @@ pub(crate) fn shares_of<F: Drop>(
     Ok(shares)
 }
 
-// So many shares without parts.
+// That many shares without parts.
 fn empty_shares<F: Drop>(alloc: Global, count: usize) -> Result<Vec<Vec<Vec<F>>>, NoMemory>
     ensures { IfOk result (λ shares. rows_of_shares shares.items ≡ []) }
 {
@@ -56,10 +81,7 @@ fn last_share<F: Drop>(alloc: Global, shares: &mut Vec<Vec<Vec<F>>>) -> Vec<Vec<
 }
 
 // The rising list of the rows of the parts, alone in a list.
-pub(crate) fn together<F: Ord + Drop>(
-    alloc: Global,
-    parts: Vec<Vec<F>>,
-) -> Result<Vec<Vec<F>>, NoMemory>
+fn together<F: Ord + Drop>(alloc: Global, parts: Vec<Vec<F>>) -> Result<Vec<Vec<F>>, NoMemory>
     requires exact { IsExact F.cmp }
     ensures { IfOk result (λ lists. AreListed F.cmp (rows_of parts.items) lists.items) }
 {

@@ -1,20 +1,15 @@
-//! Relations of rows of values: their rows on a day, by one worker or several, and two rows that are glued.
-ghost use Rattle.std.specs.Prelude.{◌≤◌};
-ghost use Rattle.og_par.specs.Limits.{max_workers};
+//! Relations of rows of values: their rows on a day, and two rows that are glued.
 
-use crate::listing::{are_lines, is_text, lists};
-use crate::texts::{cell, overlap, point, row};
-use og_base::{NoMemory, RefDay, RtSet, read_ref_day, write_rt};
+use crate::listing::{is_text, lists};
+use crate::texts::{cell, overlap, row};
+use og_base::{NoMemory, RtSet, write_rt};
 use og_expr::CondDays;
 use og_ops::{Hit, test_pair};
-use og_par::{Crew, OpenGate};
 use og_query::Expr;
 use og_rel::Rel;
-use og_time::OngoingPoint;
-use og_value::{Kind, Row, Value, write_cell};
+use og_value::{Kind, Row, write_cell};
 use std::alloc::Global;
 use std::process::Abort;
-use std::thread::Threads;
 
 // All days.
 fn all_days<H: AllocGlobal + Abort>(rt: &H) -> RtSet {
@@ -52,61 +47,6 @@ fn a_row_that_stands_twice_is_listed_once_and_one_without_days_is_left_out(rt: H
     assert!(rt; lists(rt.alloc(), &copy, 2, "2020-05-01", "2020-05-01\n"));
     rel.append(copy).expect(&rt, "memory");
     assert!(rt; lists(rt.alloc(), &rel, 4, "2020-05-02", "2020-05-02\n"));
-}
-
-// 4,096 rows on all days, of a number below 1,000 and the point.
-fn numbered<H: AllocGlobal + Abort>(rt: &H, point: OngoingPoint) -> Rel<Row> {
-    let mut rel = Rel::new(rt.alloc());
-    for i in 0..4096_i64 {
-        add_row(
-            rt,
-            row(rt, [Value::Int(i % 1000), Value::Point(point)]),
-            all_days(rt),
-            &mut rel,
-        );
-    }
-    rel
-}
-
-// The lines that are wanted: each number below 1,000, and the day.
-fn wanted<H: AllocGlobal + Abort>(rt: &H) -> String {
-    let mut out = String::new(rt.alloc());
-    for number in 0..1000 {
-        let line = format!(in rt.alloc(); "{number},2020-05-01\n").expect(rt, "memory");
-        out.push_str(line.as_str()).expect(rt, "memory");
-    }
-    out
-}
-
-// Whether these are the lines of the relation on the day, as that many workers list it.
-fn has_lines_by<H: AllocGlobal + Threads + Sync>(
-    rt: &H,
-    workers: usize,
-    rel: &Rel<Row>,
-    day: RefDay,
-    text: &str,
-) -> bool
-    requires least { 1 ≤ workers }
-    requires most { workers ≤ max_workers }
-{
-    let crew = Crew::new(rt, rt.alloc(), workers, &OpenGate);
-    match rel.at_workers(&crew, day) {
-        Ok(rows) => are_lines(rt.alloc(), rows.as_slice(), text),
-        Err(_) => false,
-    }
-}
-
-#[test]
-fn a_relation_is_one_list_for_all_numbers_of_workers(rt: HostRuntime) {
-    let rel = numbered(&rt, point(&rt, "now"));
-    let day = read_ref_day(b"2020-05-01").expect(&rt, "a day");
-    let wanted = wanted(&rt);
-    for workers in &[1, 2, 64] {
-        assert!(rt;
-            has_lines_by(&rt, *workers, &rel, day, wanted.as_str()),
-            "{workers} workers"
-        );
-    }
 }
 
 // The bug or the patch of that number, in the spam filter, with its period.

@@ -32,9 +32,10 @@ pub fn execute<H: Threads + Sync, G: Gate + Sync>(
     ensures refused { OnErr result (stored names.new.names ≡ stored names.old.names) }
 {
     match stmt {
-        Typed::Insert { .. } | Typed::Delete { .. } | Typed::Update { .. } => names.change(
-            crew, stmt,
-        ),
+        Typed::Insert { .. } | Typed::Delete { .. } | Typed::Update { .. } => {
+            names.keep_columns();
+            names.change(crew, stmt)
+        }
         other => {
             let done = name_or_drop(crew, &other, names);
             drop(other);

@@ -12,6 +12,28 @@ use og_value::Name;
 use og_view::View;
 use std::thread::Threads;
 
+/// Keeps beside the rows that views use the numbers in their columns, by which what follows looks up rows. Takes
+/// memory where there is some.
+pub fn keep_columns(db: &mut Db, views: &IndexMap<Name, View>)
+    ensures { db.new ≡ db.old }
+{
+    'names: for at in 0..db.len() {
+        if is_used(db.name_at(at), views) {
+            db.keep_columns(at);
+        }
+    }
+}
+
+// Whether a view uses the name.
+fn is_used(name: &Name, views: &IndexMap<Name, View>) -> bool {
+    'views: for at in 0..views.len() {
+        if views[at].uses(name) {
+            return true;
+        }
+    }
+    false
+}
+
 /// Lets each view follow the delta of the table. Refused only for want of memory; then some have followed. No
 /// result changes.
 pub fn follow<H: Threads + Sync, G: Gate + Sync>(

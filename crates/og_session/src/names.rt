@@ -23,7 +23,7 @@ ghost use Rattle.og_session.specs.Following.{IsChange, IsOnlyWritten};
 ghost use Rattle.og_session.specs.Names.{IsDone};
 
 use crate::changes::delta_of;
-use crate::follow::{end, follow};
+use crate::follow::{end, follow, keep_columns};
 use crate::settle::settle_all;
 use indexmap::IndexMap;
 use og_base::NoMemory;
@@ -150,6 +150,14 @@ impl Names {
         self.db.live(shown, schema)?;
         self.views.insert(key, view)?;
         Ok(())
+    }
+
+    /// Keeps beside the rows that live results use the numbers in their columns, by which changes look up rows. Takes
+    /// memory where there is some.
+    pub fn keep_columns(&mut self)
+        ensures { self.new ≡ self.old }
+    {
+        keep_columns(&mut self.db, &self.views);
     }
 
     /// Changes the rows of a table. What the statement does is found once, as a delta of the table: first each

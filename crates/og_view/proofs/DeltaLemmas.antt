@@ -15,7 +15,7 @@ use Rattle.og_query.specs.Fits.{IsFitRow, schemas_of}
 use Rattle.og_query.proofs.QueryLemmas.{rows_ordered}
 use Rattle.og_query.specs.declared.query.Query.{Query}
 use Rattle.og_exec.specs.Tables.{rows_on, rows_or_none, size_or_none}
-use Rattle.og_reduce.proofs.PlaceLemmas.{All-others}
+use Rattle.og_rel.proofs.PlaceLemmas.{All-others}
 use Rattle.og_db.specs.Database.{Relation}
 use Rattle.og_db.specs.Deltas.{IsApplied, IsDelta, IsDeltaOf, after_at, rest_at, rest_of, rows_after}
 use Rattle.og_db.specs.Held.{Held, known_of, put_at, rows_of}

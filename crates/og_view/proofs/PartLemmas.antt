@@ -34,7 +34,7 @@ use Rattle.og_view.specs.declared.part.Part.{Part}
 use Rattle.og_view.proofs.GrownLemmas.{any_over, core_rows-over}
 use Rattle.og_view.proofs.NarrowedLemmas.{HaveWidths, any_narrowed, any_passing, filter_every, parted_at}
 use Rattle.og_view.proofs.PlacedLemmas.{by_place, length-letters, placed-by_place}
-use Rattle.og_reduce.proofs.PlaceLemmas.{and_nothing, nothing_and}
+use Rattle.og_rel.proofs.PlaceLemmas.{and_nothing, nothing_and}
 use Rattle.og_reduce.proofs.SieveLemmas.{passes-one}
 use Rattle.og_view.proofs.SieveLemmas.{rows_on-sifted}
 

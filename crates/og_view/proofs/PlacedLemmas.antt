@@ -11,7 +11,7 @@ use Rattle.og_query.specs.Kinds.{fits, kind_in, kinds_of}
 use Rattle.og_query.specs.declared.query.Core.{Core}
 use Rattle.og_query.specs.declared.query.From1.{From1}
 use Rattle.og_exec.specs.Tables.{Relations}
-use Rattle.og_reduce.proofs.PlaceLemmas.{and_nothing, nothing_and, one_across}
+use Rattle.og_rel.proofs.PlaceLemmas.{and_nothing, nothing_and, one_across}
 use Rattle.og_db.specs.Database.{Relation}
 use Rattle.og_view.specs.Placed.{beside, columns_at, letters, place_schemas, placed, placed_from, placed_core, placed_query}
 

@@ -24,8 +24,8 @@ use Rattle.og_query.proofs.QueryLemmas.{answer_rises, rows_ordered}
 use Rattle.og_exec.specs.Tables.{Relation, Relations, rows_at, rows_on}
 use Rattle.og_view.specs.Again.{passing_rows}
 use Rattle.og_db.specs.Held.{Held, rows_of}
-use Rattle.og_reduce.specs.Places.{ArePlaces, others_at, places}
-use Rattle.og_reduce.proofs.PlaceLemmas.{others-none, others-places, places-are}
+use Rattle.og_rel.specs.Places.{ArePlaces, others_at, places}
+use Rattle.og_rel.proofs.PlaceLemmas.{others-none, others-places, places-are}
 use Rattle.og_view.specs.Changes.{IsChange}
 use Rattle.og_view.specs.declared.change.Change.{Change}
 use Rattle.og_view.specs.Placed.{AreGrown, cores_of, more_rows}

@@ -6,7 +6,7 @@ use Rattle.og_query.specs.Queries.{ordinary_query}
 use Rattle.og_query.specs.declared.query.Query.{Query}
 use Rattle.og_db.specs.Database.{Relation}
 use Rattle.og_db.specs.Held.{Held, rows_of}
-use Rattle.og_reduce.specs.Places.{ArePlaces, others_at}
+use Rattle.og_rel.specs.Places.{ArePlaces, others_at}
 use Rattle.og_view.specs.declared.change.Change.{Change}
 use Rattle.og_view.specs.declared.change.Next.{Next}
 use Rattle.og_view.specs.declared.change.Next.TheVariants as next

@@ -11,7 +11,7 @@ ghost use Rattle.og_db.specs.Database.{Relation};
 ghost use Rattle.og_db.specs.Deltas.{IsApplied, IsDelta, after_at, rest_at};
 ghost use Rattle.og_db.specs.Held.{Held, known_of, rows_of};
 ghost use Rattle.og_db.specs.Live as live;
-ghost use Rattle.og_reduce.specs.Places.{ArePlaces};
+ghost use Rattle.og_rel.specs.Places.{ArePlaces};
 ghost use Rattle.og_reduce.specs.Sieves.{passes};
 ghost use Rattle.og_view.specs.Changes.{IsChange, changed_by};
 ghost use Rattle.og_view.specs.Placed.{cores_of, more_rows};
@@ -158,7 +158,10 @@ impl View {
         ensures result { (tables : List (Held Relation)) → IsAnswerOver tables self.old.query (to_be self.old) → IsAnswerOver tables self.old.query self.new.result }
     {
         match self.next.take() {
-            Some(Next::Changed { at, .. }) => self.result.take_out(at.as_slice()),
+            Some(Next::Changed { at, len }) => {
+                let came = self.result.rel().len() - len;
+                self.result.take_out(at.as_slice(), came);
+            }
             Some(Next::Renewed(result)) => self.result = result,
             None => {}
         }

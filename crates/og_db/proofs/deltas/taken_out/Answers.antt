@@ -1,6 +1,6 @@
 use Rattle.std.proofs.Common.{◌∙◌, ap, sym, subst}
 use Rattle.og_rel.specs.Relations.{passing}
-use Rattle.og_reduce.specs.Places.{places}
+use Rattle.og_rel.specs.Places.{places}
 use Rattle.og_expr.specs.Bounds.{may_hold}
 use Rattle.og_db.specs.Database.{HaveKinds}
 use Rattle.og_db.proofs.ChangeLemmas.{passing_fit}

@@ -2,7 +2,6 @@ use Rattle.std.proofs.Common.{◌∙◌, ap, sym, subst}
 use Rattle.og_db.specs.Live.{kept_at}
 use Rattle.og_db.specs.Database.{HaveKinds}
 use Rattle.og_db.proofs.EntryLemmas.{All-changed, has_columns, is_there, with_kept}
-use Rattle.og_db.proofs.database.Db.settle.Goals.{in-Some-1, in-None-1}
 use Rattle.og_db.proofs.database.Db.settle.Goals as goal
 
 pub invariant_of-self : goal.invariant_of-self
@@ -20,13 +19,6 @@ unreachable-requires c =
 
 pub returns : goal.returns
 returns c =
-    elim c.match-held-bare.branch [
-      | in-Some-1 w ↦
-          with_kept c.args.name.now c.args.self.now c.self.inside.names.entries c.self.view_is c.in-Some.at c.index_mut-held.result.now
-          (sym c.in-Some.ensures.index) (sym c.in-Some.ensures.value ∙ c.index_mut-held.ensures.value) c.bare.result c.in-Some.ensures.unique
-          ∙ ap (λ rel. kept_at c.args.name.now rel c.args.self.now) c.bare.ensures
-      | in-None-1 w ↦
-          with_kept c.args.name.now c.args.self.now c.self.inside.names.entries c.self.view_is c.in-Some.at c.index_mut-held.result.now
-          (sym c.in-Some.ensures.index) (sym c.in-Some.ensures.value ∙ c.index_mut-held.ensures.value) c.bare.result c.in-Some.ensures.unique
-          ∙ ap (λ rel. kept_at c.args.name.now rel c.args.self.now) c.bare.ensures
-    ]
+    with_kept c.args.name.now c.args.self.now c.self.inside.names.entries c.self.view_is c.in-Some.at c.index_mut-held.result.now
+    (sym c.in-Some.ensures.index) (sym c.in-Some.ensures.value ∙ c.index_mut-held.ensures.value) c.bare.result c.in-Some.ensures.unique
+    ∙ ap (λ rel. kept_at c.args.name.now rel c.args.self.now) c.bare.ensures

@@ -2,8 +2,8 @@ use Rattle.std.proofs.Common.{◌≡◌, Some, length, ap, sym, ◌∙◌, arith
 use Rattle.std.specs.Cmp.Lexicographic.{same_text}
 use Rattle.std.proofs.lemmas.List.{length-append}
 use Rattle.og_exec.specs.Tables.{size_or_none, sizes_of}
-use Rattle.og_reduce.specs.Places.{others_at}
-use Rattle.og_reduce.proofs.PlaceLemmas.{length-others}
+use Rattle.og_rel.specs.Places.{others_at}
+use Rattle.og_rel.proofs.PlaceLemmas.{length-others}
 use Rattle.og_db.specs.Deltas.{after_at, rest_of, rows_after}
 use Rattle.og_db.specs.Held.{rows_of}
 use Rattle.og_view.proofs.ChangedLemmas.{rows_of-another, rows_of-here, rows_of-none}

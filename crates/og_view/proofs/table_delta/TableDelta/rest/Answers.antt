@@ -2,7 +2,7 @@ use Rattle.std.proofs.Common.{◌++◌, Some, length, ap, subst, sym, ◌∙◌}
 use Rattle.std.specs.Cmp.Lexicographic.{same_text}
 use Rattle.std.specs.Option.{option_map}
 use Rattle.std.proofs.lemmas.List.Elements.{filter-append}
-use Rattle.og_reduce.specs.Places.{ArePlaces, others_at}
+use Rattle.og_rel.specs.Places.{ArePlaces, others_at}
 use Rattle.og_reduce.specs.Sieves.{row_passes, sifted}
 use Rattle.og_db.specs.Deltas.{rest_at, rest_of}
 use Rattle.og_db.specs.Held.{rows_of}

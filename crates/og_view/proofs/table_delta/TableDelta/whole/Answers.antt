@@ -1,5 +1,5 @@
 use Rattle.std.proofs.Common.{◌≡◌, ◌++◌, ap, subst, sym, ◌∙◌}
-use Rattle.og_reduce.specs.Places.{others_at}
+use Rattle.og_rel.specs.Places.{others_at}
 use Rattle.og_db.specs.Database.{HaveKinds}
 use Rattle.og_db.specs.Deltas.{rows_after}
 use Rattle.og_db.specs.Held.{put_at}

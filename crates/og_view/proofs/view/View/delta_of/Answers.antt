@@ -2,7 +2,7 @@ use Rattle.std.proofs.Common.{◌≡◌, true, pos, refl, ap, ◌∙◌, arith}
 use Rattle.std.specs.List.{All}
 use Rattle.std.proofs.lemmas.List.Elements.{All-weaker}
 use Rattle.og_value.specs.Values.{row_at}
-use Rattle.og_reduce.specs.Places.{places}
+use Rattle.og_rel.specs.Places.{places}
 use Rattle.og_reduce.specs.Sieves.{row_passes, tests_from}
 use Rattle.og_db.specs.Deltas.{after_at, rest_at}
 use Rattle.og_view.proofs.DeltaLemmas.{grown-added, grown-gone}

@@ -6,8 +6,8 @@ use Rattle.std.proofs.lemmas.Result.{on_ok_weaker}
 use Rattle.og_rel.specs.Relations.{HasDays}
 use Rattle.og_query.specs.Sizes.{query_size}
 use Rattle.og_exec.specs.Tables.{sizes_of}
-use Rattle.og_reduce.specs.Places.{others_at}
-use Rattle.og_reduce.proofs.PlaceLemmas.{All-others, length-others}
+use Rattle.og_rel.specs.Places.{others_at}
+use Rattle.og_rel.proofs.PlaceLemmas.{All-others, length-others}
 use Rattle.og_db.specs.Deltas.{after_at, rows_after}
 use Rattle.og_db.specs.Held.{rows_of}
 use Rattle.og_db.specs.Statements.{or_else}

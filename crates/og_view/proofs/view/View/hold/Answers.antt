@@ -1,6 +1,6 @@
 use Rattle.std.proofs.Common.{◌≡◌, ◌++◌, Some, ap, ◌∙◌}
-use Rattle.og_reduce.specs.Places.{others_at}
-use Rattle.og_reduce.proofs.PlaceLemmas.{others-append}
+use Rattle.og_rel.specs.Places.{others_at}
+use Rattle.og_rel.proofs.PlaceLemmas.{others-append}
 use Rattle.og_view.proofs.ViewLemmas.{held_alone}
 use Rattle.og_view.proofs.view.View.hold.Goals as goal
 
